@@ -1,8 +1,7 @@
--- What a run knows when it waits. The last turn of each session made no progress, no call was made on its ports since,
--- and there is no news for them. No bot came, and no connect has a result. The wait watches the ports of each session, by
--- a call of the round's visits.
--- (own)
-use Rattle.std.specs.Prelude.{◌≡◌, ℕ, ◌<◌, ◌⊎◌, ◌++◌, ◌==◌, min, true, false, List, [], ◌∷◌, length, Contains, All}
+-- What a run knows of the places that are not in its queue. The last turn of a session made no progress, the system found
+-- nothing that may be done at once for its ports, no call was made on them since, and no poll woke the place since. A
+-- connect had no result. (own)
+use Rattle.std.specs.Prelude.{◌≡◌, ℕ, ◌<◌, ◌⊎◌, min, true, false, List, length, Contains, All, IfSome, Some, None, slice_get}
 use Rattle.daide_frame.specs.declared.side.Side.{Side}
 use Rattle.daide_protocol.specs.Wires.{SessionView, queued, front_of, room_of, no_frame}
 use Rattle.daide_io.specs.declared.ports.ClockEvent.TheVariants.{NoEvent}
@@ -10,13 +9,14 @@ use Rattle.daide_io.specs.declared.ports.Pull.{Pull}
 use Rattle.daide_io.specs.declared.ports.Pull.TheVariants.{Got, Idle}
 use Rattle.daide_io.specs.declared.ports.Put.TheVariants.{Took}
 use Rattle.daide_io.specs.Ports.{PortCall, TurnBegins, Clock, Pulled, Offered, EvolvesBy}
+use Rattle.daide_io.specs.ReadyQueue.{is_queued}
 use Rattle.daide_io.specs.declared.system.Connect.TheVariants.{Pending}
-use Rattle.daide_io.specs.System.{SystemCall, Begins, Shows, ReportsNews, BeginsTurn, Watches, Accepts, Connects}
-use Rattle.daide_io.specs.System.{Retires, Notifies, Waits}
+use Rattle.daide_io.specs.System.{SystemCall, Connects, Rests, last_about}
+use Rattle.daide_driver.specs.Slab.{PlaceView, Free, Kept, Held}
 use Rattle.daide_driver.specs.Turn.{Turn, most_pulled}
 use Rattle.daide_settings.specs.declared.settings.Settings.{Settings}
 use Rattle.daide_event_loop.specs.QuotaPorts.{QuotaPortsView}
-use Rattle.daide_event_loop.specs.Serving.{ServiceView, may_accept, Round, Rounds, initial_service, is_done}
+use Rattle.daide_event_loop.specs.Serving.{ServiceView, Rounds, initial_service}
 
 -- ---- a turn without progress
 
@@ -63,45 +63,24 @@ pub record IsIdleSession {P : Type 0} (transition : P → PortCall → P → Typ
   pub pulled : (side : Side) → PullsIfRoom side place.0 turn
   pub offered : (side : Side) → OffersIfQueued side place.0 turn
 
--- ---- a wait
+-- ---- rest
 
--- A session at a wait: it is idle. By the visits of the round that waits the system began its last turn, and then was to
--- watch its ports as they are now; or it reported no news for its ports, and watches them for that.
-pub record IsIdleAtWait {P : Type 0} (transition : P → PortCall → P → Type 0) (visits : List (SystemCall P))
-    (place : SessionView × QuotaPortsView P) : Type 0 where
-  pub idle : IsIdleSession transition place
-  pub asked : (Contains visits (BeginsTurn idle.ports idle.begun) × Contains visits (Watches place.1.ports))
-      ⊎ Contains visits (ReportsNews place.1.ports false)
+-- What is at a place rests after these calls of a run. Of a session, the last turn made no progress. Of a connect, the
+-- system had no result. The last call about the place said so: no poll has woken it since, and no call was made for it.
+abbrev pub IsAtRest : {P : Type 0} → (P → PortCall → P → Type 0) → List (SystemCall P) → ℕ → PlaceView (QuotaPortsView P) →
+    Type 0
+IsAtRest transition calls place Free = Unit {0}
+IsAtRest transition calls place Kept = last_about place None calls ≡ Some (Connects place Pending)
+IsAtRest transition calls place (Held session ports) = IsIdleSession transition (session, ports)
+    × (last_about place None calls ≡ Some (Rests place ports.ports true))
 
--- a call of visits: a question for news, the beginning of a turn, or ports that the next wait is to watch
-abbrev pub IsVisitCall : {P : Type 0} → SystemCall P → Type 0
-IsVisitCall (Begins orders) = ⊥
-IsVisitCall (Shows ports status) = ⊥
-IsVisitCall (ReportsNews ports news) = Unit {0}
-IsVisitCall (BeginsTurn before after) = Unit {0}
-IsVisitCall (Watches ports) = Unit {0}
-IsVisitCall (Accepts came) = ⊥
-IsVisitCall (Connects connect) = ⊥
-IsVisitCall (Retires ports end) = ⊥
-IsVisitCall (Notifies notice) = ⊥
-IsVisitCall Waits = ⊥
+-- The invariant of a run: after these calls, each place that is used and not in the queue is at rest.
+abbrev pub RestsUnlessQueued : {P : Type 0} → (P → PortCall → P → Type 0) → List (SystemCall P) → ServiceView P → Type 0
+RestsUnlessQueued transition calls run = (place : ℕ) → is_queued run.ready place ≡ false →
+    IfSome (slice_get run.slab.places place) (IsAtRest transition calls place)
 
--- A run at a wait, after this round: it is not done, and each session is idle. If one more bot may be accepted, the
--- system was asked for one in the round, and none came. If connects are under way, it was asked for a result, and none
--- had one. The last calls of the round are those of its visits, which had the system watch the ports of each session.
-pub record IsIdleRun {P : Type 0} (transition : P → PortCall → P → Type 0) (round : List (SystemCall P))
-    (run : ServiceView P) : Type 0 where
-  pub early : List (SystemCall P)
-  pub visits : List (SystemCall P)
-  pub ongoing : is_done run ≡ false
-  pub parts : round ≡ early ++ visits
-  pub only : All IsVisitCall visits
-  pub sessions : All (IsIdleAtWait transition visits) run.hub.places
-  pub bots : may_accept run.counters (length run.hub.places) ≡ true → Contains round (Accepts false)
-  pub connects : (run.counters.connecting == 0) ≡ false → Contains round (Connects Pending)
-
--- In each round of a run that ends with a wait, the run is idle at the wait.
-abbrev pub RunsAreIdleAtWaits : {P : Type 0} → (P → PortCall → P → Type 0) → Type 0
-RunsAreIdleAtWaits {P} transition = (settings : Settings) (n : ℕ) (before round : List (SystemCall P))
-    (mid run : ServiceView P) → Rounds transition n (initial_service settings) before mid → is_done mid ≡ false →
-    Round transition mid (round ++ Waits ∷ []) run → IsIdleRun transition round run
+-- After any rounds, each place that is used and not in the queue is at rest. A poll may block only if the queue is empty
+-- (`Round`), so at such a poll each used place is at rest.
+abbrev pub RestingSessionsAreIdle : {P : Type 0} → (P → PortCall → P → Type 0) → Type 0
+RestingSessionsAreIdle {P} transition = (settings : Settings) (n : ℕ) (calls : List (SystemCall P)) (run : ServiceView P) →
+    Rounds transition n (initial_service settings) calls run → RestsUnlessQueued transition calls run

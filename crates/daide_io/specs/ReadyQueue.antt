@@ -25,6 +25,10 @@ abbrev pub occurrences_of : ℕ → List ℕ → ℕ
 occurrences_of place [] = 0
 occurrences_of place (one ∷ others) = is_same one place + occurrences_of place others
 
+-- whether a place is in a list
+abbrev pub is_among : ℕ → List ℕ → Bool
+is_among place places = nat_lt 0 (occurrences_of place places)
+
 abbrev pub one_if : Bool → ℕ
 one_if true = 1
 one_if false = 0
@@ -39,7 +43,7 @@ AreMarked marks places = (place : ℕ) → occurrences_of place places ≡ one_i
 -- ---- calls
 
 abbrev pub is_queued : ReadyView → ℕ → Bool
-is_queued queue place = nat_lt 0 (occurrences_of place (listed queue))
+is_queued queue place = is_among place (listed queue)
 
 -- it is a place, and not in the queue
 abbrev pub may_join : ReadyView → ℕ → Bool

@@ -1,8 +1,9 @@
 -- The calls of the loop over sessions on its system, and their effect on the system.
-use Rattle.std.specs.Prelude.{◌≡◌, ℕ, Bool, false, List, [], ◌∷◌, length}
+use Rattle.std.specs.Prelude.{◌≡◌, ℕ, ◌==◌, if◌then◌else◌, Bool, false, List, [], ◌∷◌, length, Option, Some}
 use Rattle.daide_frame.specs.declared.side.Side.TheVariants.{Bot, Server}
 use Rattle.daide_protocol.specs.Machine.{level_in, plain_phase}
 use Rattle.daide_protocol.specs.Wires.{SessionView, queued, sent_bytes}
+use Rattle.daide_io.specs.ReadyQueue.{is_among}
 use Rattle.daide_io.specs.declared.byte_counts.ByteCounts.{ByteCounts}
 use Rattle.daide_io.specs.declared.system.Connect.{Connect}
 use Rattle.daide_io.specs.declared.system.Notice.{Notice}
@@ -45,3 +46,21 @@ abbrev pub TransitsBy : {P S : Type 0} → (S → SystemCall P → S → Type 0)
 TransitsBy transition old [] new = new ≡ old
 TransitsBy {S = S} transition old (answer ∷ answers) new =
     (mid : S) × transition old answer mid × TransitsBy transition mid answers new
+
+-- ---- what a trace says of one place
+
+-- A call is about a place if it is made for the place, or if it is a poll that wakes it.
+abbrev pub is_about : {P : Type 0} → ℕ → SystemCall P → Bool
+is_about place (Polls may_block woken orders) = is_among place woken
+is_about place (Shows ports status) = false
+is_about place (Accepts other came) = other == place
+is_about place (Connects other connect) = other == place
+is_about place (BeginsTurn other before after) = other == place
+is_about place (Rests other ports rests) = other == place
+is_about place (Retires other ports end) = other == place
+is_about place (Notifies notice) = false
+
+-- the last call about a place: the last of these, or the one before them if none of these is
+abbrev pub last_about : {P : Type 0} → ℕ → Option (SystemCall P) → List (SystemCall P) → Option (SystemCall P)
+last_about place before [] = before
+last_about place before (call ∷ calls) = last_about place (if is_about place call then Some call else before) calls

@@ -13,3 +13,4 @@ pub mod RoomLemmas
 pub mod RunRowLemmas
 pub mod FinishTimeLemmas
 mod LawFacts
+pub mod RestLemmas

@@ -1,30 +1,31 @@
--- The table of a run: what polls reported of its sockets, what the next wait watches, and its time. (own)
-use Rattle.std.specs.Prelude.{◌≡◌, ℕ, ◌+◌, ◌-◌, ◌<◌, ◌≤◌, if◌then◌else◌, Bool, true, false, ◌||◌, List, [], ◌∷◌}
+-- The table of a run: what polls reported of its sockets, the deadlines of its places, and the time of a poll. (own)
+use Rattle.std.specs.Prelude.{◌≡◌, ℕ, ◌+◌, ◌-◌, ◌*◌, Bool, true, false, not, ◌&&◌, ◌||◌, List, [], ◌∷◌}
 use Rattle.std.specs.Prelude.{Option, Some, None, slice_get, slice_set}
 use Rattle.std.specs.Duration.{as_nanos}
 use Rattle.std.specs.Time.{instant_nanos}
 use Rattle.std.specs.declared.time.Duration.{Duration}
 use Rattle.std.specs.declared.time.Instant.{Instant}
+use Rattle.daide_frame.specs.declared.side.Side.{Side}
+use Rattle.daide_frame.specs.declared.side.Side.TheVariants.{Bot, Server}
 use Rattle.daide_buffered_io.specs.declared.readiness.Readiness.{Readiness}
 use Rattle.daide_io.specs.declared.network.SocketEvent.{SocketEvent}
-use Rattle.daide_io.specs.Deadline.{earlier}
+use Rattle.daide_io.specs.Deadline.{earlier, IsNotBefore}
 use Rattle.daide_io.specs.Network.{NetworkCall, Polls, ReadsClock}
 
--- One row: whether a socket has it, and what polls reported of the socket since it last took the report.
+-- One row: whether a closing socket has it, and what polls reported of its socket since it last took the report.
 pub record Row : Type 0 where
   pub is_taken : Bool
   pub report : Readiness
 
--- The last reading of the clock; the turns since the last poll; whether a poll since the last wait reported something. Of
--- the sessions that the next wait is to watch, whether something may be done at once for one, and their nearest deadline.
--- The most rows; and those that were ever taken, each of which is named by its position.
+-- The last reading of the clock; the deadline of each place as it last came to rest, and a moment before which none of them
+-- is. Of what the next poll watches beside the places, whether something may be done at once, and the nearest deadline. The
+-- rows, each of which is named by its position.
 pub record Table : Type 0 where
   pub reading : Option Instant
-  pub turns : ℕ
-  pub has_news : Bool
+  pub deadlines : List (Option Instant)
+  pub due : Option Instant
   pub watched_work : Bool
   pub watched_due : Option Instant
-  pub max_rows : ℕ
   pub rows : List Row
 
 -- ---- one row
@@ -73,35 +74,6 @@ report_at table key = (row_at table.rows key).report
 abbrev pub is_reported_at : Table → ℕ → Bool
 is_reported_at table key = has_report (report_at table key)
 
--- each row with a report has a key between these, the first one included and the second one not
-abbrev pub AreReportsWithin : ℕ → ℕ → List Row → Type 0
-AreReportsWithin first after rows =
-    (key : ℕ) → has_report (row_at rows key).report ≡ true → (first ≤ key) × (key < after)
-
--- ---- changes of a row
-
--- the row of a socket of which nothing is known
-abbrev pub taken_row : Row
-taken_row = record free_row { is_taken = true }
-
--- the key of the first free row: the number of rows if all are taken
-abbrev pub first_free : List Row → ℕ
-first_free [] = 0
-first_free (row ∷ rows) = if row.is_taken then 1 + first_free rows else 0
-
--- no row is free
-abbrev pub IsFull : Table → Type 0
-IsFull table = table.max_rows ≤ first_free table.rows
-
--- the rows after the first free one is taken
-abbrev pub with_taken : List Row → List Row
-with_taken [] = taken_row ∷ []
-with_taken (row ∷ rows) = if row.is_taken then row ∷ with_taken rows else taken_row ∷ rows
-
--- the first free row was taken, under its key, and no other changed
-abbrev pub TakesRow : Table → ℕ → Table → Type 0
-TakesRow old key new = (key ≡ first_free old.rows) × (new ≡ record old { rows = with_taken old.rows })
-
 -- a row is freed
 abbrev pub freed : Table → ℕ → Table
 freed table key = record table { rows = changed table.rows key free_row }
@@ -111,12 +83,42 @@ abbrev pub without_report : Table → ℕ → Table
 without_report table key =
     record table { rows = changed table.rows key (record (row_at table.rows key) { report = no_report }) }
 
--- the next wait is also to watch a session with work or without it, and with this nearest deadline
+-- ---- one place
+
+-- the key of the row of the bot at a place, or of the server
+abbrev pub key_of : ℕ → Side → ℕ
+key_of place Bot = 2 * place
+key_of place Server = 2 * place + 1
+
+abbrev pub deadline_in : Option (Option Instant) → Option Instant
+deadline_in None = None
+deadline_in (Some due) = due
+
+-- the deadline of a place as it last came to rest; none if it has none
+abbrev pub deadline_at : Table → ℕ → Option Instant
+deadline_at table place = deadline_in (slice_get table.deadlines place)
+
+-- no place has a deadline before `due`
+abbrev pub AreDeadlinesBounded : Table → Type 0
+AreDeadlinesBounded table = (place : ℕ) → IsNotBefore table.due (deadline_at table place)
+
+-- a place rests until this deadline
+abbrev pub resting : Table → ℕ → Option Instant → Table
+resting table place due =
+    record table { deadlines = slice_set table.deadlines place due; due = earlier table.due due }
+
+-- both sockets of a place take the reports of their rows
+abbrev pub without_reports : Table → ℕ → Table
+without_reports table place = without_report (without_report table (key_of place Bot)) (key_of place Server)
+
+-- ---- what is watched beside the places
+
+-- the next poll also watches something with work or without it, and with this nearest deadline
 abbrev pub watching : Table → Bool → Option Instant → Table
 watching table has_work due =
     record table { watched_work = table.watched_work || has_work; watched_due = earlier table.watched_due due }
 
--- no session is watched
+-- nothing is watched
 abbrev pub unwatched : Table → Table
 unwatched table = record table { watched_work = false; watched_due = None }
 
@@ -132,15 +134,6 @@ abbrev pub with_events : List Row → List SocketEvent → List Row
 with_events rows [] = rows
 with_events rows (event ∷ events) = with_events (with_event rows event) events
 
-abbrev pub is_some_news : List SocketEvent → Bool
-is_some_news [] = false
-is_some_news (event ∷ events) = true
-
--- a poll reported these events
-abbrev pub with_news : Table → List SocketEvent → Table
-with_news table news =
-    record table { turns = 0; has_news = table.has_news || is_some_news news; rows = with_events table.rows news }
-
 -- the last reading stays if there is no other
 abbrev pub latest : Option Instant → Option Instant → Option Instant
 latest old None = old
@@ -154,13 +147,9 @@ pub record PollsOnce {N C : Type 0} (transition : N → NetworkCall C → N → 
   pub reading : Option Instant
   pub polls : transition old (Polls timeout news) polled
   pub reads : transition polled (ReadsClock reading) new
-  pub table : after ≡ record (with_news before news) { reading = latest before.reading reading }
+  pub table : after ≡ record before { reading = latest before.reading reading; rows = with_events before.rows news }
 
--- ---- a wait
-
--- A wait must not block after a poll that reported something, nor while something that it watches has work.
-abbrev pub has_pending : Table → Bool
-has_pending table = table.has_news || table.watched_work
+-- ---- the time of a poll
 
 -- the time from a reading of the clock until a moment: none without either
 abbrev pub IsUntil : Option Instant → Option Instant → Option Duration → Type 0
@@ -174,20 +163,11 @@ abbrev pub IsNoTime : Option Duration → Type 0
 IsNoTime None = ⊥
 IsNoTime (Some time) = as_nanos time ≡ 0
 
-abbrev pub IsWaitTimeIf : Bool → Table → Option Duration → Type 0
-IsWaitTimeIf true table time = IsNoTime time
-IsWaitTimeIf false table time = IsUntil table.reading table.watched_due time
+abbrev pub IsPollTimeIf : Bool → Table → Option Duration → Type 0
+IsPollTimeIf false table time = IsNoTime time
+IsPollTimeIf true table time = IsUntil table.reading (earlier table.due table.watched_due) time
 
--- A wait lasts at most until the nearest deadline that it watches, and for ever if there is none. It takes no time if
--- something is pending.
-abbrev pub IsWaitTime : Table → Option Duration → Type 0
-IsWaitTime table time = IsWaitTimeIf (has_pending table) table time
-
--- A wait: one poll, for the time of a wait. From then on what polls reported before is no reason not to block.
-pub record WaitsOnce {N C : Type 0} (transition : N → NetworkCall C → N → Type 0) (old : N) (before : Table) (new : N)
-    (after : Table) : Type 0 where
-  pub time : Option Duration
-  pub polled : Table
-  pub lasts : IsWaitTime before time
-  pub polls : PollsOnce transition time old before new polled
-  pub table : after ≡ record polled { has_news = false }
+-- A poll that may block, and watches nothing with work, lasts at most until the nearest deadline, and for ever if there is
+-- none. Any other takes no time.
+abbrev pub IsPollTime : Bool → Table → Option Duration → Type 0
+IsPollTime may_block table time = IsPollTimeIf (may_block && not table.watched_work) table time

@@ -1,17 +1,24 @@
--- What a session's sockets know without a call of the network, and how the calls of its ports change that. What a wait
--- watches of them. (own)
-use Rattle.std.specs.Prelude.{◌≡◌, ◌⊎◌, ℕ, ◌<◌, ◌||◌, Bool, true, false, List, [], length, Option}
+-- What a session's sockets know without a call of the network, and how the calls of its ports change that. What each call
+-- of a system keeps of the places. (own)
+use Rattle.std.specs.Prelude.{◌≡◌, ◌⊎◌, ℕ, ◌<◌, ◌==◌, ◌||◌, Bool, true, false, List, [], ◌∷◌, length, Option, All}
 use Rattle.std.specs.declared.time.Duration.{Duration}
 use Rattle.std.specs.declared.time.Instant.{Instant}
+use Rattle.daide_frame.specs.declared.side.Side.{Side}
+use Rattle.daide_frame.specs.declared.side.Side.TheVariants.{Bot, Server}
 use Rattle.daide_io.specs.declared.ports.Pull.{Pull}
 use Rattle.daide_io.specs.declared.ports.Pull.TheVariants.{Got, Idle}
 use Rattle.daide_io.specs.declared.ports.Put.{Put}
 use Rattle.daide_io.specs.declared.ports.Put.TheVariants.{Took}
+use Rattle.daide_io.specs.declared.system.Connect.{Connect}
+use Rattle.daide_io.specs.declared.system.Connect.TheVariants.{Ready, Failed, Pending}
+use Rattle.daide_io.specs.Deadline.{earlier}
+use Rattle.daide_io.specs.Network.{NetworkCall, ReadsClock, Listens, AcceptsConnection, StopsListening, ListensForControl}
+use Rattle.daide_io.specs.Network.{AcceptsControl, BeginsConnect, Follows, AsksConnect}
+use Rattle.daide_io.specs.Network as Networks
 use Rattle.daide_io.specs.Ports.{PortCall, TurnBegins, Clock, Pulled, Offered}
-use Rattle.daide_io.specs.Network.{NetworkCall}
-use Rattle.daide_io.specs.System.{SystemCall, Begins, Shows, ReportsNews, BeginsTurn, Watches, Accepts, Connects}
-use Rattle.daide_io.specs.System.{Retires, Notifies, Waits}
+use Rattle.daide_io.specs.ReadyQueue.{is_among}
 use Rattle.daide_io.specs.Streams.{StreamCall}
+use Rattle.daide_io.specs.System.{SystemCall, Polls, Shows, Accepts, Connects, BeginsTurn, Rests, Retires, Notifies}
 use Rattle.daide_buffered_io.specs.declared.readiness.Readiness.{Readiness}
 use Rattle.daide_buffered_io.specs.Calls.{OnlyPuts}
 use Rattle.daide_buffered_io.specs.Streams.{stream_of}
@@ -19,8 +26,8 @@ use Rattle.daide_sockets.specs.declared.socket.Socket.{Socket}
 use Rattle.daide_sockets.specs.Sockets.{has_socket_work, next_deadline}
 use Rattle.daide_sockets.specs.Times.{is_past}
 use Rattle.daide_sockets.specs.InTime.{watching_all}
-use Rattle.daide_io.specs.Deadline.{earlier}
-use Rattle.daide_sockets.specs.Table.{Table, merged, is_reported_at, watching, unwatched, PollsOnce, IsWaitTime}
+use Rattle.daide_sockets.specs.Table.{Table, AreDeadlinesBounded, PollsOnce, IsPollTime, merged, report_at, is_reported_at}
+use Rattle.daide_sockets.specs.Table.{key_of, deadline_at, resting, without_reports}
 
 -- Nothing was read from a socket. What is known of reads is unchanged. A socket that is not writable stays so, one that is
 -- writable stays so but for a write that its stream did not take whole, and what must be tried again stays so until the
@@ -68,7 +75,7 @@ Settles calls (Pulled side room pull bytes) old new = IsPulled room pull (stream
 Settles calls (Offered side bytes put) old new = IsOffered calls bytes put (stream_of old side) (stream_of new side)
     × StaysUnread calls (stream_of (old.1, old.0) side) (stream_of (new.1, new.0) side)
 
--- ---- a wait
+-- ---- rest
 
 -- The sockets of a session, the reading of the clock at which its last turn began, and the deadline of its initial
 -- message.
@@ -78,13 +85,14 @@ pub record SessionSockets (S : Type 0) : Type 0 where
   pub reading : Option Instant
   pub im_due : Option Instant
 
--- something may be done at once for a socket
-abbrev pub may_go_on : {S : Type 0} → Table → Socket S → Bool
-may_go_on table socket = is_reported_at table socket.key || has_socket_work socket.stream socket.readiness socket.tries_again
+-- Something may be done at once for the socket of a row: a poll reported something that was not taken yet, or there is work.
+abbrev pub may_go_on : {S : Type 0} → Table → ℕ → Socket S → Bool
+may_go_on table key socket = is_reported_at table key || has_socket_work socket.stream socket.readiness socket.tries_again
 
--- Something may be done at once for a session: a poll reported something that was not taken yet, or there is work.
-abbrev pub may_session_go_on : {S : Type 0} → Table → SessionSockets S → Bool
-may_session_go_on table session = may_go_on table session.bot || may_go_on table session.server
+-- the same for either socket of the session at a place
+abbrev pub may_session_go_on : {S : Type 0} → Table → ℕ → SessionSockets S → Bool
+may_session_go_on table place session =
+    may_go_on table (key_of place Bot) session.bot || may_go_on table (key_of place Server) session.server
 
 -- the nearest deadline of a session: of its peers' timeouts, and of the initial message
 abbrev pub session_due : {S : Type 0} → SessionSockets S → Option Instant
@@ -92,57 +100,109 @@ session_due session =
     earlier (earlier (next_deadline session.reading session.bot.stalls_at session.bot.silent_from)
     (next_deadline session.reading session.server.stalls_at session.server.silent_from)) session.im_due
 
--- There is news for a session: something may be done at once, or its nearest deadline is past.
-abbrev pub has_session_news : {S : Type 0} → Table → SessionSockets S → Bool
-has_session_news table session = may_session_go_on table session || is_past table.reading (session_due session)
+-- A session is to rest: it does exactly if nothing may be done at once for it, and then until its nearest deadline.
+abbrev pub RestsFor : {S : Type 0} → Bool → Table → ℕ → SessionSockets S → Table → Type 0
+RestsFor true old place session new =
+    (may_session_go_on old place session ≡ false) × (new ≡ resting old place (session_due session))
+RestsFor false old place session new = (may_session_go_on old place session ≡ true) × (new ≡ old)
 
--- A poll for the time of a wait that watches these too, each with work or without it, and with its nearest deadline. All
--- that the poll reported is in the rows. After it nothing is watched.
-pub record RestsOnce {N C : Type 0} (transition : N → NetworkCall C → N → Type 0) (others : List (Bool × Option Instant))
-    (old : N) (before : Table) (new : N) (after : Table) : Type 0 where
+-- ---- what a call keeps
+
+-- a place keeps the reports of its two rows, and its deadline
+pub record KeepsPlace (old : Table) (place : ℕ) (new : Table) : Type 0 where
+  pub reports : (side : Side) → report_at new (key_of place side) ≡ report_at old (key_of place side)
+  pub deadline : deadline_at new place ≡ deadline_at old place
+
+-- So does each place but one.
+abbrev pub KeepsOtherPlaces : Table → ℕ → Table → Type 0
+KeepsOtherPlaces old place new =
+    (other : ℕ) → other < length old.deadlines → (place == other) ≡ false → KeepsPlace old other new
+
+-- A connect that did not fail leaves what was reported of its bot for the first turn of the session.
+abbrev pub KeepsBot : {P : Type 0} → Connect P → Table → ℕ → Table → Type 0
+KeepsBot (Ready ports) old place new = report_at new (key_of place Bot) ≡ report_at old (key_of place Bot)
+KeepsBot Failed old place new = Unit {0}
+KeepsBot Pending old place new = report_at new (key_of place Bot) ≡ report_at old (key_of place Bot)
+
+-- a call that polls
+abbrev pub is_poll : {C : Type 0} → NetworkCall C → Bool
+is_poll (ReadsClock reading) = false
+is_poll (Networks.Polls timeout news) = true
+is_poll (Listens key is_followed) = false
+is_poll (AcceptsConnection accepted) = false
+is_poll StopsListening = false
+is_poll (ListensForControl key is_followed) = false
+is_poll (AcceptsControl accepted) = false
+is_poll (BeginsConnect address begun) = false
+is_poll (Follows before key is_followed after) = false
+is_poll (AsksConnect connection status) = false
+
+-- The network went from one value to another by calls, none of which was a poll.
+abbrev pub RunsBy : {N C : Type 0} → (N → NetworkCall C → N → Type 0) → N → List (NetworkCall C) → N → Type 0
+RunsBy transition old [] new = new ≡ old
+RunsBy {N} transition old (call ∷ calls) new = (mid : N) × transition old call mid × RunsBy transition mid calls new
+
+abbrev pub GoesUnpolled : {N C : Type 0} → (N → NetworkCall C → N → Type 0) → N → N → Type 0
+GoesUnpolled {N} {C} transition old new =
+    (calls : List (NetworkCall C)) × RunsBy transition old calls new × All (λ call. is_poll call ≡ false) calls
+
+-- ---- a turn
+
+-- The turn of the session at a place begins: what polls reported of each socket is added to what is known of it, and no
+-- more is in the rows.
+pub record TakesReports {S : Type 0} (calls : S → Option (List StreamCall)) (old : Table) (place : ℕ)
+    (before after : SessionSockets S) (new : Table) : Type 0 where
+  pub bot : OnlyPuts calls (merged before.bot.readiness (report_at old (key_of place Bot))) before.bot.stream.stream
+      after.bot.readiness after.bot.stream.stream
+  pub server : OnlyPuts calls (merged before.server.readiness (report_at old (key_of place Server))) before.server.stream.stream
+      after.server.readiness after.server.stream.stream
+  pub table : new ≡ without_reports old place
+
+-- ---- a poll
+
+-- The network is polled once, for the time of a poll that watches these beside the places, each with work or without it,
+-- and with its nearest deadline. All that was reported of the sockets of a place is in its rows. A place that is not woken
+-- keeps its reports and its deadline, and its deadline is not past.
+pub record PollsForPlaces {N C : Type 0} (transition : N → NetworkCall C → N → Type 0) (others : List (Bool × Option Instant))
+    (may_block : Bool) (woken : List ℕ) (old : N) (before : Table) (new : N) (after : Table) : Type 0 where
   pub time : Option Duration
-  pub polled : Table
-  pub lasts : IsWaitTime (watching_all before others) time
-  pub polls : PollsOnce transition time old (watching_all before others) new polled
-  pub table : after ≡ unwatched (record polled { has_news = false })
+  pub polled : N
+  pub reported : Table
+  pub lasts : IsPollTime may_block (watching_all before others) time
+  pub polls : PollsOnce transition time old before polled reported
+  pub goes_on : GoesUnpolled transition polled new
+  pub reading : after.reading ≡ reported.reading
+  pub reports : (place : ℕ) → place < length before.deadlines → (side : Side) →
+      report_at after (key_of place side) ≡ report_at reported (key_of place side)
+  pub asleep : (place : ℕ) → place < length before.deadlines → is_among place woken ≡ false →
+      KeepsPlace before place after × (is_past after.reading (deadline_at after place) ≡ false)
 
--- A call that watches nothing keeps all that the next wait watches. A poll that reported something since the last wait
--- still keeps the next one from blocking. Unless some poll did, nothing is reported of a socket that was not reported
--- before.
-pub record KeepsWatched (old new : Table) : Type 0 where
-  pub work : new.watched_work ≡ old.watched_work
-  pub due : new.watched_due ≡ old.watched_due
-  pub news : old.has_news ≡ true → new.has_news ≡ true
-  pub reports : new.has_news ≡ false → (key : ℕ) → is_reported_at old key ≡ false → is_reported_at new key ≡ false
+-- ---- calls
 
--- The next wait is also to watch a session: whether something may be done at once, by the ports or for another reason, and
--- its nearest deadline.
-abbrev pub WatchesSession : {S : Type 0} → Table → SessionSockets S → Table → Type 0
-WatchesSession old session new =
-    (other : Bool) × (new ≡ watching old (may_session_go_on old session || other) (session_due session))
+-- Each call keeps the number of places, and no place has a deadline before `due` after it.
+pub record KeepsPlaces (old new : Table) : Type 0 where
+  pub places : length new.deadlines ≡ length old.deadlines
+  pub bounded : AreDeadlinesBounded new
 
--- a session for which there is no news is watched; one with news has a turn, and is watched after it
-abbrev pub WatchesUnless : {S : Type 0} → Bool → Table → SessionSockets S → Table → Type 0
-WatchesUnless true old session new = new ≡ old
-WatchesUnless false old session new = WatchesSession old session new
+-- What a call does to the network and the table, as far as the places need it; `view` is the content of ports. Only a poll
+-- polls the network. A call about a place keeps what is known of the others, and one that is about none changes nothing.
+abbrev pub WakesBy : {P S N C : Type 0} → (N → NetworkCall C → N → Type 0) → (S → Option (List StreamCall)) →
+    (P → SessionSockets S) → N × Table → SystemCall P → N × Table → Type 0
+WakesBy transition calls view old (Polls may_block woken orders) new = (others : List (Bool × Option Instant))
+    × PollsForPlaces transition others may_block woken old.0 old.1 new.0 new.1
+WakesBy transition calls view old (Shows ports status) new = new ≡ old
+WakesBy transition calls view old (Accepts place came) new =
+    GoesUnpolled transition old.0 new.0 × KeepsOtherPlaces old.1 place new.1
+WakesBy transition calls view old (Connects place connect) new =
+    GoesUnpolled transition old.0 new.0 × KeepsOtherPlaces old.1 place new.1 × KeepsBot connect old.1 place new.1
+WakesBy transition calls view old (BeginsTurn place before after) new =
+    (new.0 ≡ old.0) × TakesReports calls old.1 place (view before) (view after) new.1
+WakesBy transition calls view old (Rests place ports rests) new =
+    (new.0 ≡ old.0) × RestsFor rests old.1 place (view ports) new.1
+WakesBy transition calls view old (Retires place ports end) new =
+    GoesUnpolled transition old.0 new.0 × KeepsOtherPlaces old.1 place new.1
+WakesBy transition calls view old (Notifies notice) new = new ≡ old
 
--- a question for news: perhaps a poll, and then the session is watched if there is no news for it
-abbrev pub AsksForNews : {S : Type 0} → Bool → Table → SessionSockets S → Table → Type 0
-AsksForNews news old session new = (mid : Table) × KeepsWatched old mid × WatchesUnless news mid session new
-
--- The effect of a system call on the network and the table, as far as a wait needs it; `view` is the content of ports.
--- A wait watches each session that it was to watch, and each that had no news when the system was asked for some. It
--- watches others too, which the call itself names (`Beside`).
-abbrev pub Wakes : {P S N C : Type 0} → (N → NetworkCall C → N → Type 0) → (P → SessionSockets S) → N × Table →
-    SystemCall P → N × Table → Type 0
-Wakes transition view old (Watches ports) new = WatchesSession old.1 (view ports) new.1
-Wakes transition view old Waits new =
-    (others : List (Bool × Option Instant)) × RestsOnce transition others old.0 old.1 new.0 new.1
-Wakes transition view old (Begins orders) new = Unit {0}
-Wakes transition view old (Shows ports status) new = Unit {0}
-Wakes transition view old (ReportsNews ports news) new = AsksForNews news old.1 (view ports) new.1
-Wakes transition view old (BeginsTurn before after) new = KeepsWatched old.1 new.1
-Wakes transition view old (Accepts came) new = Unit {0}
-Wakes transition view old (Connects connect) new = Unit {0}
-Wakes transition view old (Retires ports end) new = Unit {0}
-Wakes transition view old (Notifies notice) new = Unit {0}
+abbrev pub Wakes : {P S N C : Type 0} → (N → NetworkCall C → N → Type 0) → (S → Option (List StreamCall)) →
+    (P → SessionSockets S) → N × Table → SystemCall P → N × Table → Type 0
+Wakes transition calls view old call new = KeepsPlaces old.1 new.1 × WakesBy transition calls view old call new
