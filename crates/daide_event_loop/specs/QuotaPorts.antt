@@ -1,5 +1,5 @@
 -- Ports with a quota of turns: the effect of a call and its result, and what counts as progress.
-use Rattle.std.specs.Prelude.{◌≡◌, ℕ, suc, zero, ◌+◌, ◌-◌, nat_lt, if◌then◌else◌, Bool, true, false, not, ◌&&◌, ◌||◌, List, [], ◌∷◌}
+use Rattle.std.specs.Prelude.{◌≡◌, ℕ, suc, zero, nat_lt, Bool, true, false, ◌||◌, List, [], ◌∷◌}
 use Rattle.std.specs.Prelude.{Option, Some, None}
 use Rattle.std.specs.Option.{option_or}
 use Rattle.daide_protocol.specs.declared.ending.Ending.{Ending}
@@ -8,19 +8,18 @@ use Rattle.daide_io.specs.declared.ports.ClockEvent.TheVariants.{NoEvent}
 use Rattle.daide_io.specs.declared.byte_counts.ByteCounts.{ByteCounts}
 use Rattle.daide_io.specs.ByteCounts.{counted_after}
 use Rattle.daide_io.specs.Ports.{PortCall, TurnBegins, Clock, Pulled, Offered, is_eventful}
-use Rattle.daide_io.specs.System.{SystemCall, BeginsTurn}
+use Rattle.daide_io.specs.System.{SystemCall, BeginsTurn, Rests}
 use Rattle.daide_io.specs.declared.ports.Pull.{Pull}
 use Rattle.daide_io.specs.declared.ports.Pull.TheVariants.{Got, Idle, Ended}
 use Rattle.daide_io.specs.declared.ports.Put.{Put}
 use Rattle.daide_io.specs.declared.ports.Put.TheVariants.{Took, Failed}
 
--- the ports inside, the turns left (none once the quota is exceeded), whether the last turn made progress, the load, the
--- first end or failure returned beyond the quota, and the bytes delivered and taken
+-- the ports inside, the turns left (none once the quota is exceeded), whether the last turn made progress, the first end or
+-- failure returned beyond the quota, and the bytes delivered and taken
 pub record QuotaPortsView (P : Type 0) : Type 0 where
   pub ports : P
   pub turns_left : Option ℕ
   pub made_progress : Bool
-  pub load : ℕ
   pub first_synthetic_end : Option Ending
   pub bytes : ByteCounts
 
@@ -53,23 +52,6 @@ progress_after TurnBegins made_progress = false
 progress_after (Clock event) made_progress = made_progress || is_eventful event
 progress_after (Pulled side buffer pull bytes) made_progress = made_progress || is_gain pull
 progress_after (Offered side bytes put) made_progress = made_progress || is_loss put
-
--- The load of a session when a turn begins: one more after a turn that made progress, at most 64; and 16 less after one
--- that made none. (own)
-abbrev pub load_at_turn : Bool → ℕ → ℕ
-load_at_turn true load = if nat_lt load 64 then load + 1 else load
-load_at_turn false load = load - 16
-
-abbrev pub load_after : PortCall → Bool → ℕ → ℕ
-load_after TurnBegins made_progress load = load_at_turn made_progress load
-load_after (Clock event) made_progress load = load
-load_after (Pulled side buffer pull bytes) made_progress load = load
-load_after (Offered side bytes put) made_progress load = load
-
--- A session is calm if its last turn made no progress and its load is below 32. So messages of up to some 8,000 bytes
--- leave it calm. Any other session is busy. (own)
-abbrev pub is_calm : {P : Type 0} → QuotaPortsView P → Bool
-is_calm ports = not ports.made_progress && nat_lt ports.load 32
 
 -- the same after several calls, one after another
 abbrev pub progress_by : List PortCall → Bool → Bool
@@ -104,7 +86,6 @@ pub record Meters {P : Type 0} (transition : P → PortCall → P → Type 0) (o
     (new : QuotaPortsView P) : Type 0 where
   pub turns_left : new.turns_left ≡ left_after answer old.turns_left
   pub made_progress : new.made_progress ≡ progress_after answer old.made_progress
-  pub load : new.load ≡ load_after answer old.made_progress old.load
   pub first_synthetic_end : new.first_synthetic_end ≡ reported_after answer new.turns_left old.first_synthetic_end
   pub bytes : new.bytes ≡ counted_after answer old.bytes
   pub ports : EvolvesWhile transition new.turns_left old.ports answer new.ports
@@ -112,9 +93,17 @@ pub record Meters {P : Type 0} (transition : P → PortCall → P → Type 0) (o
 -- ---- the system at the beginning of a turn
 
 -- within the quota the system begins the turn, and is lent the ports; beyond it there is no such call
-abbrev pub beginning_where : {P : Type 0} → Option ℕ → P → P → List (SystemCall P)
-beginning_where (Some turns) before after = BeginsTurn before after ∷ []
-beginning_where None before after = []
+abbrev pub beginning_where : {P : Type 0} → Option ℕ → ℕ → P → P → List (SystemCall P)
+beginning_where (Some turns) place before after = BeginsTurn place before after ∷ []
+beginning_where None place before after = []
 
-abbrev pub beginning : {P : Type 0} → QuotaPortsView P → QuotaPortsView P → List (SystemCall P)
-beginning old new = beginning_where new.turns_left old.ports new.ports
+abbrev pub beginning : {P : Type 0} → ℕ → QuotaPortsView P → QuotaPortsView P → List (SystemCall P)
+beginning place old new = beginning_where new.turns_left place old.ports new.ports
+
+-- ---- the system after the turns of a visit
+
+-- The system is to have a session rest if its last turn made no progress. If it made some, it does not rest, and the system
+-- is not called.
+abbrev pub AsksToRest : {P : Type 0} → Bool → ℕ → P → List (SystemCall P) → Bool → Type 0
+AsksToRest true place ports answers rests = (answers ≡ []) × (rests ≡ false)
+AsksToRest false place ports answers rests = answers ≡ Rests place ports rests ∷ []

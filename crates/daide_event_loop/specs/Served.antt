@@ -1,6 +1,7 @@
 -- The effect of a run on each of its sessions: those that it has, and those that it retired.
-use Rattle.std.specs.Prelude.{◌≡◌, ℕ, zero, suc, ◌+◌, ◌<◌, ◌≤◌, nat_lt, Bool, true, false, ◌&&◌, ◌==◌, List, [], ◌∷◌, length}
-use Rattle.std.specs.Prelude.{Option, Some, None, is_none, Contains, All, if◌then◌else◌}
+use Rattle.std.specs.Prelude.{◌≡◌, ℕ, zero, suc, ◌+◌, ◌<◌, ◌≤◌, nat_lt, Bool, true, false, List, [], ◌∷◌, length}
+use Rattle.std.specs.Prelude.{Option, Some, None, is_none, Contains, All, count_by, if◌then◌else◌}
+use Rattle.std.specs.List.{list_all}
 use Rattle.daide_protocol.specs.declared.ending.Ending.{Ending}
 use Rattle.daide_protocol.specs.Machine.{Limits, SessionState, Effect, Runs, ending_in}
 use Rattle.daide_protocol.specs.Wires.{SessionView, is_closed}
@@ -12,6 +13,7 @@ use Rattle.daide_io.specs.Ports.{PortCall, TurnBegins, Clock, Pulled, Offered, E
 use Rattle.daide_driver.specs.Headline.{untouched, IsBoundedAndExact}
 use Rattle.daide_driver.specs.Totals.{HasTotals}
 use Rattle.daide_driver.specs.Hub.{IsBegun, IsTurned}
+use Rattle.daide_driver.specs.Slab.{is_free, is_kept, is_held, IfHeld}
 use Rattle.daide_settings.specs.declared.settings.Settings.{Settings}
 use Rattle.daide_io.specs.declared.system.Connect.TheVariants.{Ready, Failed}
 use Rattle.daide_io.specs.declared.system.Orders.{Orders}
@@ -19,8 +21,7 @@ use Rattle.daide_io.specs.declared.system.Cause.{Cause}
 use Rattle.daide_io.specs.declared.system.Cause.TheVariants as Causes
 use Rattle.daide_io.specs.declared.system.SessionEnd.{SessionEnd}
 use Rattle.daide_event_loop.specs.QuotaPorts.{QuotaPortsView, Meters, progress_by}
-use Rattle.daide_io.specs.System.{SystemCall, Begins, Shows, ReportsNews, BeginsTurn, Watches, Accepts, Connects}
-use Rattle.daide_io.specs.System.{Retires, Notifies, Waits}
+use Rattle.daide_io.specs.System.{SystemCall, Polls, Shows, Accepts, Connects, BeginsTurn, Rests, Retires, Notifies}
 use Rattle.daide_event_loop.specs.Serving.{ServiceView, fresh, initial_service, is_done, Rounds, Serves}
 use Rattle.daide_settings.specs.BotsInAll.{bots_in_all}
 
@@ -28,13 +29,14 @@ use Rattle.daide_settings.specs.BotsInAll.{bots_in_all}
 abbrev pub run_limits : Settings → Limits
 run_limits settings = limits_with settings.config (words_of settings.words)
 
--- A session of a run: a connect delivered its ports, with a full quota of turns; and by all its port calls since, it
--- has this property.
+-- A session of a run: a connect delivered its ports at its place, with a full quota of turns; and by all its port calls
+-- since, it has this property.
 pub record IsSessionOfRun {P : Type 0} (transition : P → PortCall → P → Type 0)
     (Kind : Limits → List PortCall → SessionView → Type 0) (settings : Settings) (answers : List (SystemCall P))
     (now : SessionView × QuotaPortsView P) : Type 0 where
+  pub place : ℕ
   pub ports : P
-  pub came : Contains answers (Connects (Ready ports))
+  pub came : Contains answers (Connects place (Ready ports))
   pub history : List PortCall
   pub answered : EvolvesBy (Meters transition) (fresh ports settings.turns) history now.1
   pub stands : Kind (run_limits settings) history now.0
@@ -70,39 +72,37 @@ IsEndOf limits turns history session end =
     × Runs (untouched limits).state (events_of (while_left turns history)) effects state × (end.cause ≡ cause_of (ending_in state.phase))
     × (end.account ≡ session.account) × (end.fault_field ≡ fault_field_of state)
 
--- retired ports are those of a closed session that was served, and the reported end is that of this session
+-- retired ports are those of a closed session that was served at this place, and the reported end is that of this session
 abbrev pub RetiresClosed : {P : Type 0} → (P → PortCall → P → Type 0) → Settings → List (SystemCall P) →
     SystemCall P → Type 0
-RetiresClosed {P} transition settings answers (Retires ports end) =
+RetiresClosed {P} transition settings answers (Retires place ports end) =
     (now : SessionView × QuotaPortsView P) × (now.1.ports ≡ ports) × (is_closed now.0 ≡ true)
-    × ((served : IsServed transition settings answers now)
+    × ((served : IsServed transition settings answers now) × (served.place ≡ place)
     × IsEndOf (run_limits settings) settings.turns served.history now.0 end)
-RetiresClosed transition settings answers (Begins orders) = Unit {0}
+RetiresClosed transition settings answers (Polls may_block woken orders) = Unit {0}
 RetiresClosed transition settings answers (Shows ports status) = Unit {0}
-RetiresClosed transition settings answers (ReportsNews ports news) = Unit {0}
-RetiresClosed transition settings answers (BeginsTurn before after) = Unit {0}
-RetiresClosed transition settings answers (Watches ports) = Unit {0}
-RetiresClosed transition settings answers (Accepts came) = Unit {0}
-RetiresClosed transition settings answers (Connects connect) = Unit {0}
+RetiresClosed transition settings answers (Accepts place came) = Unit {0}
+RetiresClosed transition settings answers (Connects place connect) = Unit {0}
+RetiresClosed transition settings answers (BeginsTurn place before after) = Unit {0}
+RetiresClosed transition settings answers (Rests place ports rests) = Unit {0}
 RetiresClosed transition settings answers (Notifies notice) = Unit {0}
-RetiresClosed transition settings answers Waits = Unit {0}
 
 -- the number of ports that a call delivered, and the number that it retired
 abbrev pub connects : {P : Type 0} → SystemCall P → ℕ
-connects (Connects (Ready ports)) = 1
+connects (Connects place (Ready ports)) = 1
 connects _ = 0
 
 abbrev pub retires : {P : Type 0} → SystemCall P → ℕ
-retires (Retires ports end) = 1
+retires (Retires place ports end) = 1
 retires _ = 0
 
 -- the number of bots that a call accepted, and the number whose server could not be reached
 abbrev pub comes : {P : Type 0} → SystemCall P → ℕ
-comes (Accepts true) = 1
+comes (Accepts place true) = 1
 comes _ = 0
 
 abbrev pub unreached : {P : Type 0} → SystemCall P → ℕ
-unreached (Connects Failed) = 1
+unreached (Connects place Failed) = 1
 unreached _ = 0
 
 abbrev pub sum_over_calls : {P : Type 0} → (SystemCall P → ℕ) → List (SystemCall P) → ℕ
@@ -113,7 +113,7 @@ sum_over_calls count (answer ∷ answers) = count answer + sum_over_calls count 
 
 -- 1 if the call accepts a bot or finds none; 1 if it shows the status of a session
 abbrev pub accept_calls : {P : Type 0} → SystemCall P → ℕ
-accept_calls (Accepts came) = 1
+accept_calls (Accepts place came) = 1
 accept_calls _ = 0
 
 abbrev pub show_calls : {P : Type 0} → SystemCall P → ℕ
@@ -122,7 +122,7 @@ show_calls _ = 0
 
 -- 1 if the call returns orders with this property
 abbrev pub orders_with : {P : Type 0} → (Orders → Bool) → SystemCall P → ℕ
-orders_with Has (Begins orders) = if Has orders then 1 else 0
+orders_with Has (Polls may_block woken orders) = if Has orders then 1 else 0
 orders_with Has _ = 0
 
 -- how many orders to stop accepting, and to show the sessions, there were in a trace
@@ -143,7 +143,7 @@ HeedsStops (answer ∷ answers) =
 -- came and were served. Without an order to show the sessions, none is shown.
 pub record HeedsOrders {P : Type 0} (settings : Settings) (answers : List (SystemCall P)) (run : ServiceView P) : Type 0 where
   pub stops : HeedsStops answers
-  pub ends : 0 < stop_orders answers → is_done run ≡ ((run.counters.connecting == 0) && (length run.hub.places == 0))
+  pub ends : 0 < stop_orders answers → is_done run ≡ list_all is_free run.slab.places
   pub goes_on : stop_orders answers ≡ 0 → run.counters.sessions ≡ bots_in_all settings
   pub shows : show_orders answers ≡ 0 → sum_over_calls show_calls answers ≡ 0
 
@@ -159,10 +159,10 @@ OrdersAreHeeded {P} transition = (settings : Settings) (n : ℕ) (answers : List
 abbrev pub SessionsAreServed : {P : Type 0} → (P → PortCall → P → Type 0) → Type 0
 SessionsAreServed {P} transition = (settings : Settings) (n : ℕ) (answers : List (SystemCall P)) (run : ServiceView P) →
     Rounds transition n (initial_service settings) answers run →
-    All (IsServed transition settings answers) run.hub.places × All (RetiresClosed transition settings answers) answers
-    × (sum_over_calls connects answers ≡ length run.hub.places + sum_over_calls retires answers)
+    All (IfHeld (IsServed transition settings answers)) run.slab.places × All (RetiresClosed transition settings answers) answers
+    × (sum_over_calls connects answers ≡ count_by is_held run.slab.places + sum_over_calls retires answers)
     × (run.counters.accepted ≡ sum_over_calls comes answers)
-    × (sum_over_calls comes answers ≡ run.counters.connecting + sum_over_calls connects answers + sum_over_calls unreached answers)
+    × (sum_over_calls comes answers ≡ count_by is_kept run.slab.places + sum_over_calls connects answers + sum_over_calls unreached answers)
 
 -- A whole run of settings: rounds until all bots were served and no session is left. So each completed connect was a
 -- session, which was served, and retired as a closed one. By all its port calls it is bounded and exact, and none is
@@ -178,7 +178,7 @@ pub record IsWholeRun {P : Type 0} (transition : P → PortCall → P → Type 0
   pub stops : HeedsStops answers
   pub all_served : sum_over_calls comes answers ≡ sum_over_calls retires answers + sum_over_calls unreached answers
 
--- Whether a turn made progress, which decides if a round waits, follows from the port calls of the turn.
+-- Whether a turn made progress, which decides if another follows in the visit, follows from the port calls of the turn.
 abbrev pub MovesAreAnswered : {P : Type 0} → (P → PortCall → P → Type 0) → Type 0
 MovesAreAnswered {P} transition = (old mid new : SessionView × QuotaPortsView P) → IsBegun (Meters transition) old mid →
     (turn : IsTurned (Meters transition) mid new) → new.1.made_progress ≡ progress_by turn.exchange.call false

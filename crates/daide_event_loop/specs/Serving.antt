@@ -1,9 +1,8 @@
 -- The loop of a run: the system calls and the effect of each step of a round, a round, and a whole run, completed or
 -- broken off. Each step is stated with its trace of system calls, recorded or not.
-use Rattle.std.specs.Prelude.{IfSome, ◌≡◌, ℕ, zero, suc, ◌+◌, ◌-◌, ◌<◌, ◌≤◌, nat_lt, nat_le, Bool, true, false, not, ◌&&◌, ◌||◌, ◌==◌, ◌⊎◌}
-use Rattle.std.specs.Prelude.{List, [], ◌∷◌, ◌++◌, length, filter, Option, Some, None, is_none, slice_get}
-use Rattle.std.specs.Prelude.{if◌then◌else◌}
-use Rattle.std.specs.List.{list_any}
+use Rattle.std.specs.Prelude.{◌≡◌, ℕ, zero, suc, ◌+◌, ◌<◌, ◌≤◌, nat_lt, nat_le, Bool, true, false, ◌&&◌, ◌==◌, ◌⊎◌}
+use Rattle.std.specs.Prelude.{List, [], ◌∷◌, ◌++◌, length, Option, Some, None, is_none, slice_get, if◌then◌else◌}
+use Rattle.std.specs.List.{list_all, list_any}
 use Rattle.daide_protocol.specs.declared.ending.Ending.{Ending}
 use Rattle.daide_protocol.specs.declared.ending.Ending.TheVariants.{Ended, Lost}
 use Rattle.daide_protocol.specs.declared.account.Account.{Account}
@@ -12,7 +11,11 @@ use Rattle.daide_protocol.specs.Wires.{SessionView, is_closed}
 use Rattle.daide_words.specs.Words.{words_of}
 use Rattle.daide_protocol.specs.Config.{limits_with}
 use Rattle.daide_io.specs.Ports.{PortCall}
-use Rattle.daide_driver.specs.Hub.{HubView, with_places, AddsSession, Changes, IsBegun, IsTurned}
+use Rattle.daide_io.specs.ReadyQueue.{ReadyView, listed, woken, woken_all, put_back, TakesNext}
+use Rattle.daide_driver.specs.Hub.{IsBegun, IsTurned}
+use Rattle.daide_driver.specs.declared.place.Place.{Place}
+use Rattle.daide_driver.specs.declared.place.Place.TheVariants.{Free, Kept, Held}
+use Rattle.daide_driver.specs.Slab.{SlabView, IsAt, with_place, all_free, is_free, OpensAt, ChangesAt}
 use Rattle.daide_settings.specs.declared.settings.Settings.{Settings}
 use Rattle.daide_event_loop.specs.declared.serving.ServeFault.{ServeFault}
 use Rattle.daide_event_loop.specs.declared.serving.ServeFault.TheVariants as Faults
@@ -26,66 +29,50 @@ use Rattle.daide_io.specs.declared.system.Orders.{Orders}
 use Rattle.daide_io.specs.declared.system.SessionEnd.{SessionEnd}
 use Rattle.daide_io.specs.declared.fault_field.FaultField.{FaultField}
 use Rattle.daide_io.specs.FaultField.{fault_field_of}
-use Rattle.daide_event_loop.specs.QuotaPorts.{QuotaPortsView, Meters, beginning, is_calm}
-use Rattle.daide_io.specs.System.{SystemCall, TransitsBy, Begins, Shows, ReportsNews, BeginsTurn, Watches, Accepts, Connects}
-use Rattle.daide_io.specs.System.{Retires, Notifies, Waits, status_of}
+use Rattle.daide_event_loop.specs.QuotaPorts.{QuotaPortsView, Meters, beginning, AsksToRest}
+use Rattle.daide_io.specs.System.{SystemCall, Polls, Shows, Accepts, Connects, Retires, Notifies, status_of}
 use Rattle.daide_io.specs.ByteCounts.{no_bytes}
 use Rattle.daide_settings.specs.BotsInAll.{bots_in_all}
 use Rattle.daide_protocol.specs.Machine.{ending_in}
 
--- the state of a run: the sessions, and the counters
+-- the state of a run: the sessions at their places, the counters, and the queue of places that are to be visited
 pub record ServiceView (P : Type 0) : Type 0 where
-  pub hub : HubView (QuotaPortsView P)
+  pub slab : SlabView (QuotaPortsView P)
   pub counters : AdmissionCounters
+  pub ready : ReadyView
+
+-- ---- numbers
+
+-- The quantum: the most turns of a session in one visit. A short frame takes four, and the fifth finds nothing to do. (own)
+abbrev pub quantum : ℕ
+quantum = 8
+
+-- the most turns of a round (own)
+abbrev pub most_in_round : ℕ
+most_in_round = 32
+
+-- As many turns of a round are left to those that used their quantum before, if there are any. (own)
+abbrev pub left_to_moving : ℕ
+left_to_moving = 8
 
 -- ---- the counters
 
--- one more bot may be accepted beside `count` sessions; a connect under way needs a place too
-abbrev pub may_accept : AdmissionCounters → ℕ → Bool
-may_accept counters count = nat_lt counters.accepted counters.sessions && nat_lt (count + counters.connecting) counters.max_sessions
-
--- all bots were accepted, and none is left, as a session or with a connect under way
-abbrev pub is_served : AdmissionCounters → ℕ → Bool
-is_served counters count = (counters.accepted == counters.sessions) && ((counters.connecting == 0) && (count == 0))
-
--- the same limits, with these counts of connects under way and bots accepted
-abbrev pub counting : AdmissionCounters → ℕ → ℕ → AdmissionCounters
-counting counters connecting accepted = record {
-  max_sessions = counters.max_sessions;
-  sessions = counters.sessions;
-  turns = counters.turns;
-  connecting = connecting;
-  accepted = accepted;
-}
+-- all bots of the run were accepted
+abbrev pub have_all_come : AdmissionCounters → Bool
+have_all_come counters = counters.accepted == counters.sessions
 
 -- no more bots are accepted: those accepted so far are all
 abbrev pub closed : AdmissionCounters → AdmissionCounters
-closed counters = record {
-  max_sessions = counters.max_sessions;
-  sessions = counters.accepted;
-  turns = counters.turns;
-  connecting = counters.connecting;
-  accepted = counters.accepted;
-}
+closed counters = record counters { sessions = counters.accepted }
 
--- a bot that was accepted has a connect under way
-abbrev pub come : Bool → AdmissionCounters → AdmissionCounters
-come true counters = counting counters (counters.connecting + 1) (counters.accepted + 1)
-come false counters = counters
-
--- one connect fewer is under way
-abbrev pub arrived : AdmissionCounters → AdmissionCounters
-arrived counters = counting counters (counters.connecting - 1) counters.accepted
-
--- whether all bots were served, and no session is left
+-- all bots were served, and no place is used
 abbrev pub is_done : {P : Type 0} → ServiceView P → Bool
-is_done run = is_served run.counters (length run.hub.places)
+is_done run = have_all_come run.counters && list_all is_free run.slab.places
 
--- no more sessions and connects than the limit at once, and no more bots accepted than the limit in all
-pub record IsWithinQuotas {P : Type 0} (hub : HubView (QuotaPortsView P)) (counters : AdmissionCounters) : Type 0 where
-  pub same_max : hub.max ≡ counters.max_sessions
-  pub held : length hub.places + counters.connecting ≤ counters.max_sessions
-  pub accepted : counters.accepted ≤ counters.sessions
+-- no more bots are accepted than the limit in all, and each place may be in the queue
+pub record IsRunSound {P : Type 0} (run : ServiceView P) : Type 0 where
+  pub accepted : run.counters.accepted ≤ run.counters.sessions
+  pub same_places : run.ready.places ≡ length run.slab.places
 
 -- ---- a round begins
 
@@ -94,216 +81,59 @@ abbrev pub heeding : Orders → AdmissionCounters → AdmissionCounters
 heeding orders counters = if orders.stops_accepting then closed counters else counters
 
 -- the status of each session is shown, in order of place
-abbrev pub shows : {P : Type 0} → List (SessionView × QuotaPortsView P) → List (SystemCall P)
+abbrev pub shows : {P : Type 0} → List (Place (SessionView × QuotaPortsView P)) → List (SystemCall P)
 shows [] = []
-shows (place ∷ places) = Shows place.1.ports (status_of place.0 place.1.bytes) ∷ shows places
+shows (Free ∷ places) = shows places
+shows (Kept ∷ places) = shows places
+shows (Held held ∷ places) = Shows held.1.ports (status_of held.0 held.1.bytes) ∷ shows places
 
-abbrev pub shows_where : {P : Type 0} → Bool → List (SessionView × QuotaPortsView P) → List (SystemCall P)
+abbrev pub shows_where : {P : Type 0} → Bool → List (Place (SessionView × QuotaPortsView P)) → List (SystemCall P)
 shows_where true places = shows places
 shows_where false places = []
 
--- the round begins with these orders, and the status of each session is shown once if they require it
-abbrev pub opening : {P : Type 0} → Orders → List (SessionView × QuotaPortsView P) → List (SystemCall P)
-opening orders places = Begins orders ∷ shows_where orders.shows_sessions places
+-- a round begins with a poll, which may block only if the queue is empty; then the status of each session is shown once if
+-- the orders require it
+abbrev pub opening : {P : Type 0} → ServiceView P → List ℕ → Orders → List (SystemCall P)
+opening run woken orders =
+    Polls (length (listed run.ready) == 0) woken orders ∷ shows_where orders.shows_sessions run.slab.places
 
--- ---- bots are accepted
+-- a run after its poll woke these places and returned these orders
+abbrev pub polled : {P : Type 0} → ServiceView P → List ℕ → Orders → ServiceView P
+polled run places orders =
+    record run { counters = heeding orders run.counters; ready = woken_all places run.ready }
 
--- the system is called once if one more bot may be accepted, otherwise not
-abbrev pub AdmitsWhere : {P : Type 0} → Bool → AdmissionCounters → List (SystemCall P) → AdmissionCounters → Type 0
-AdmitsWhere true old answers new = (came : Bool) × (answers ≡ Accepts came ∷ []) × (new ≡ come came old)
-AdmitsWhere false old answers new = (answers ≡ []) × (new ≡ old)
-
-abbrev pub Admits : {P : Type 0} → ℕ → AdmissionCounters → List (SystemCall P) → AdmissionCounters → Type 0
-Admits count old = AdmitsWhere (may_accept old count) old
-
--- ---- connects complete or fail
-
--- ports with a full quota of turns, which delivered and took nothing; new ports count as progress, so that their session
--- has a turn in the same round
-abbrev pub fresh : {P : Type 0} → P → ℕ → QuotaPortsView P
-fresh ports turns = record {
-  ports = ports;
-  turns_left = Some turns;
-  made_progress = true;
-  load = 0;
-  first_synthetic_end = None;
-  bytes = no_bytes;
-}
-
--- a completed connect turns into a session in its opening state, at the last place; a failed one is reported, and its
--- bot dropped
-abbrev pub MeetsBy : {P : Type 0} → Connect P → HubView (QuotaPortsView P) → AdmissionCounters → List (SystemCall P) →
-    HubView (QuotaPortsView P) → AdmissionCounters → Type 0
-MeetsBy (Ready ports) hub counters told new_hub new_counters =
-    (told ≡ []) × AddsSession hub (fresh ports counters.turns) new_hub × (new_counters ≡ arrived counters)
-MeetsBy Failed hub counters told new_hub new_counters =
-    (told ≡ Notifies CannotReach ∷ []) × (new_hub ≡ hub) × (new_counters ≡ arrived counters)
-MeetsBy Pending hub counters told new_hub new_counters = (told ≡ []) × (new_hub ≡ hub) × (new_counters ≡ counters)
-
--- if no connect is under way, the system is not called
-abbrev pub MeetsWhere : {P : Type 0} → Bool → HubView (QuotaPortsView P) → AdmissionCounters → List (SystemCall P) →
-    HubView (QuotaPortsView P) → AdmissionCounters → Type 0
-MeetsWhere true hub counters answers new_hub new_counters = (answers ≡ []) × (new_hub ≡ hub) × (new_counters ≡ counters)
-MeetsWhere {P} false hub counters answers new_hub new_counters =
-    (connect : Connect P) × (told : List (SystemCall P)) × (answers ≡ Connects connect ∷ told)
-    × MeetsBy connect hub counters told new_hub new_counters
-
-abbrev pub FinishesConnect : {P : Type 0} → HubView (QuotaPortsView P) → AdmissionCounters → List (SystemCall P) →
-    HubView (QuotaPortsView P) → AdmissionCounters → Type 0
-FinishesConnect hub counters = MeetsWhere (counters.connecting == 0) hub counters
-
--- ---- each session that has news has turns
+-- ---- a turn
 
 -- a turn of a session begins with its own ports, and the system begins it with these while turns are left
-abbrev pub OpensTurn : {P : Type 0} → (P → PortCall → P → Type 0) → List (SystemCall P) →
+abbrev pub OpensTurn : {P : Type 0} → (P → PortCall → P → Type 0) → ℕ → List (SystemCall P) →
     SessionView × QuotaPortsView P → SessionView × QuotaPortsView P → Type 0
-OpensTurn transition answers old new = IsBegun (Meters transition) old new × (answers ≡ beginning old.1 new.1)
+OpensTurn transition place answers old new = IsBegun (Meters transition) old new × (answers ≡ beginning place old.1 new.1)
 
 -- the session at this place has one turn: it begins and runs
-pub record TakesTurn {P : Type 0} (transition : P → PortCall → P → Type 0) (old : HubView (QuotaPortsView P)) (i : ℕ)
-    (answers : List (SystemCall P)) (new : HubView (QuotaPortsView P)) : Type 0 where
-  pub begun : HubView (QuotaPortsView P)
-  pub begins : Changes (OpensTurn transition answers) old i begun
-  pub runs : Changes (IsTurned (Meters transition)) begun i new
+pub record TakesTurn {P : Type 0} (transition : P → PortCall → P → Type 0) (old : SlabView (QuotaPortsView P)) (place : ℕ)
+    (answers : List (SystemCall P)) (new : SlabView (QuotaPortsView P)) : Type 0 where
+  pub begun : SlabView (QuotaPortsView P)
+  pub begins : ChangesAt (OpensTurn transition place answers) old place begun
+  pub runs : ChangesAt (IsTurned (Meters transition)) begun place new
 
--- whether a session is due a turn: if its last turn made progress, without a call; else if the system has news for its
--- ports
-abbrev pub IsDueBy : {P : Type 0} → Bool → P → List (SystemCall P) → Bool → Type 0
-IsDueBy true ports answers due = (answers ≡ []) × (due ≡ true)
-IsDueBy false ports answers due = answers ≡ ReportsNews ports due ∷ []
-
--- a session is due no turn, and the question for its news changes nothing of the system
-abbrev pub IsAtRest : {P S : Type 0} → (S → SystemCall P → S → Type 0) → S → QuotaPortsView P → Type 0
-IsAtRest {P} transition system ports = (report : List (SystemCall P)) × TransitsBy transition system report system
-    × IsDueBy ports.made_progress ports.ports report false
-
--- so are the sessions at these places, the first one included and the last one not
-abbrev pub AreAtRest : {P S : Type 0} → (S → SystemCall P → S → Type 0) → S → ℕ → ℕ → List (SessionView × QuotaPortsView P) →
-    Type 0
-AreAtRest transition system first last places = (k : ℕ) → first ≤ k → k < last →
-    IfSome (slice_get places k) (λ place. IsAtRest transition system place.1)
-
--- The most turns of a session in one visit, by whether it is calm: eight if so, so that a short frame passes in one visit;
--- four if it is busy, since sessions with bytes without end take turns. (own)
-abbrev pub most_turns : Bool → ℕ
-most_turns true = 8
-most_turns false = 4
-
--- whether the session at a place is calm; not if there is none at this place
-abbrev pub is_calm_in : {P : Type 0} → Option (SessionView × QuotaPortsView P) → Bool
-is_calm_in None = false
-is_calm_in (Some place) = is_calm place.1
-
--- whether the last turn of the session at a place made progress; not if there is none at this place
-abbrev pub has_moved_in : {P : Type 0} → Option (SessionView × QuotaPortsView P) → Bool
+-- whether the last turn of the session at a place made progress; not if there is none
+abbrev pub has_moved_in : {P : Type 0} → Option (Place (SessionView × QuotaPortsView P)) → Bool
 has_moved_in None = false
-has_moved_in (Some place) = place.1.made_progress
+has_moved_in (Some Free) = false
+has_moved_in (Some Kept) = false
+has_moved_in (Some (Held held)) = held.1.made_progress
 
--- A session that is due a turn has one, and then one more after each that made progress, but at most this many. A session
--- that is due none stays as it is, and the system is not called.
-abbrev pub TakesTurns : {P : Type 0} → (P → PortCall → P → Type 0) → Bool → ℕ → HubView (QuotaPortsView P) → ℕ →
-    List (SystemCall P) → HubView (QuotaPortsView P) → Type 0
-TakesTurns transition false most old i answers new = (answers ≡ []) × (new ≡ old)
-TakesTurns transition true zero old i answers new = (answers ≡ []) × (new ≡ old)
-TakesTurns {P} transition true (suc most) old i answers new =
-    (mid : HubView (QuotaPortsView P)) × (first : List (SystemCall P)) × (second : List (SystemCall P))
-    × (answers ≡ first ++ second) × TakesTurn transition old i first mid
-    × TakesTurns transition (has_moved_in (slice_get mid.places i)) most mid i second new
+-- A session that is due a turn has one, and then one more after each that made progress, but at most this many: `turns`.
+abbrev pub TakesTurns : {P : Type 0} → (P → PortCall → P → Type 0) → Bool → ℕ → SlabView (QuotaPortsView P) → ℕ →
+    List (SystemCall P) → ℕ → SlabView (QuotaPortsView P) → Type 0
+TakesTurns transition false most old place answers turns new = (answers ≡ []) × (turns ≡ 0) × (new ≡ old)
+TakesTurns transition true zero old place answers turns new = (answers ≡ []) × (turns ≡ 0) × (new ≡ old)
+TakesTurns {P} transition true (suc most) old place answers turns new =
+    (mid : SlabView (QuotaPortsView P)) × (first : List (SystemCall P)) × (second : List (SystemCall P)) × (others : ℕ)
+    × (answers ≡ first ++ second) × (turns ≡ suc others) × TakesTurn transition old place first mid
+    × TakesTurns transition (has_moved_in (slice_get mid.places place)) most mid place second others new
 
--- the next wait is to watch the ports of a session, unless its last turn made progress: then no wait comes first
-abbrev pub watch_unless : {P : Type 0} → Bool → P → List (SystemCall P)
-watch_unless true ports = []
-watch_unless false ports = Watches ports ∷ []
-
--- after its turns a session is watched, as these leave it; one without a turn is watched by the question for news
-abbrev pub watch_after : {P : Type 0} → Bool → Option (SessionView × QuotaPortsView P) → List (SystemCall P)
-watch_after false place = []
-watch_after true None = []
-watch_after true (Some place) = watch_unless place.1.made_progress place.1.ports
-
--- The session at this place has turns if it is due one, and none otherwise. After its turns the next wait is to watch it.
-pub record VisitsPlace {P : Type 0} (transition : P → PortCall → P → Type 0) (old : HubView (QuotaPortsView P)) (i : ℕ)
-    (answers : List (SystemCall P)) (new : HubView (QuotaPortsView P)) : Type 0 where
-  pub place : SessionView × QuotaPortsView P
-  pub there : slice_get old.places i ≡ Some place
-  pub due : Bool
-  pub report : List (SystemCall P)
-  pub turn : List (SystemCall P)
-  pub looks : IsDueBy place.1.made_progress place.1.ports report due
-  pub turns : TakesTurns transition due (most_turns (is_calm place.1)) old i turn new
-  pub asked : answers ≡ report ++ turn ++ watch_after due (slice_get new.places i)
-
--- the turns of busy sessions that a visit counts: as many as it has at most, if the session is due a turn and busy
-abbrev pub busy_turns_in : {P : Type 0} → {transition : P → PortCall → P → Type 0} → {old : HubView (QuotaPortsView P)} → {i : ℕ} →
-    {answers : List (SystemCall P)} → {new : HubView (QuotaPortsView P)} → VisitsPlace transition old i answers new → ℕ
-busy_turns_in visit = if visit.due && not (is_calm visit.place.1) then most_turns false else 0
-
--- the session at this place is visited if it is calm
-abbrev pub VisitsIfCalm : {P : Type 0} → (P → PortCall → P → Type 0) → Bool → HubView (QuotaPortsView P) → ℕ →
-    List (SystemCall P) → HubView (QuotaPortsView P) → Type 0
-VisitsIfCalm transition true old i answers new = VisitsPlace transition old i answers new
-VisitsIfCalm transition false old i answers new = (answers ≡ []) × (new ≡ old)
-
--- each calm session at the first n places is visited, in their order
-abbrev pub VisitsCalm : {P : Type 0} → (P → PortCall → P → Type 0) → ℕ → HubView (QuotaPortsView P) →
-    List (SystemCall P) → HubView (QuotaPortsView P) → Type 0
-VisitsCalm transition zero old answers new = (answers ≡ []) × (new ≡ old)
-VisitsCalm {P} transition (suc n) old answers new =
-    (mid : HubView (QuotaPortsView P)) × (first : List (SystemCall P)) × (second : List (SystemCall P))
-    × (answers ≡ first ++ second) × VisitsCalm transition n old first mid
-    × VisitsIfCalm transition (is_calm_in (slice_get mid.places n)) mid n second new
-
-abbrev pub VisitsCalmIf : {P : Type 0} → (P → PortCall → P → Type 0) → Bool → HubView (QuotaPortsView P) →
-    List (SystemCall P) → HubView (QuotaPortsView P) → Type 0
-VisitsCalmIf transition true old answers new = VisitsCalm transition (length old.places) old answers new
-VisitsCalmIf transition false old answers new = (answers ≡ []) × (new ≡ old)
-
--- the turns of busy sessions are counted anew once the calm ones are visited
-abbrev pub turns_left_over : ℕ → ℕ
-turns_left_over turns = if nat_le 32 turns then 0 else turns
-
--- The session at a place is visited, after this many turns of busy sessions in the round. Once they had 32 turns, each
--- calm session is visited before any other. So in a round a calm session with news waits for at most 32 turns of busy
--- ones, and not for one of each. Each round counts anew, so over the end of a round it may wait for 60. (own)
-pub record VisitsNext {P : Type 0} (transition : P → PortCall → P → Type 0) (turns : ℕ) (old : HubView (QuotaPortsView P))
-    (i : ℕ) (answers : List (SystemCall P)) (new : HubView (QuotaPortsView P)) (left : ℕ) : Type 0 where
-  pub mid : HubView (QuotaPortsView P)
-  pub first : List (SystemCall P)
-  pub second : List (SystemCall P)
-  pub visit : VisitsPlace transition old i first mid
-  pub calm : VisitsCalmIf transition (nat_le 32 (turns + busy_turns_in visit)) mid second new
-  pub counted : left ≡ turns_left_over (turns + busy_turns_in visit)
-  pub asked : answers ≡ first ++ second
-
--- the sessions at the first n places are visited, in their order, and the calm ones again after each 32 turns of busy
--- ones
-abbrev pub TurnsBelow : {P : Type 0} → (P → PortCall → P → Type 0) → ℕ → ℕ → HubView (QuotaPortsView P) →
-    List (SystemCall P) → HubView (QuotaPortsView P) → Type 0
-TurnsBelow transition zero turns old answers new = (answers ≡ []) × (new ≡ old) × (turns ≡ 0)
-TurnsBelow {P} transition (suc n) turns old answers new =
-    (mid : HubView (QuotaPortsView P)) × (first : List (SystemCall P)) × (second : List (SystemCall P)) × (before : ℕ)
-    × (answers ≡ first ++ second) × TurnsBelow transition n before old first mid
-    × VisitsNext transition before mid n second new turns
-
-abbrev pub TurnsAll : {P : Type 0} → (P → PortCall → P → Type 0) → HubView (QuotaPortsView P) → List (SystemCall P) →
-    HubView (QuotaPortsView P) → Type 0
-TurnsAll transition old answers new = (turns : ℕ) × TurnsBelow transition (length old.places) turns old answers new
-
--- the last turns of the sessions at the first n places made no progress
-abbrev pub AreStill : {P : Type 0} → ℕ → List (SessionView × QuotaPortsView P) → Type 0
-AreStill n places = (k : ℕ) → k < n → has_moved_in (slice_get places k) ≡ false
-
-abbrev pub any_moved : {P : Type 0} → List (SessionView × QuotaPortsView P) → Bool
-any_moved places = list_any (λ place. place.1.made_progress) places
-
-abbrev pub any_closed : {P : Type 0} → List (SessionView × QuotaPortsView P) → Bool
-any_closed places = list_any (λ place. is_closed place.0) places
-
--- no session is closed
-abbrev pub AreOpen : {P : Type 0} → List (SessionView × QuotaPortsView P) → Type 0
-AreOpen places = any_closed places ≡ false
-
--- ---- closed sessions are removed
+-- ---- a session ends
 
 abbrev pub last_words : {P : Type 0} → Bool → List (SystemCall P)
 last_words true = Notifies TurnsSpent ∷ []
@@ -332,76 +162,131 @@ end_of place =
     end_by place.1.first_synthetic_end (ending_in place.0.state.phase) place.0.account (fault_field_of place.0.state)
 
 -- spent turns are reported, if so, and then the ports are retired with the end of their session
-abbrev pub parting : {P : Type 0} → QuotaPortsView P → SessionEnd → List (SystemCall P)
-parting meter end = last_words (is_none meter.turns_left) ++ Retires meter.ports end ∷ []
+abbrev pub parting : {P : Type 0} → ℕ → QuotaPortsView P → SessionEnd → List (SystemCall P)
+parting place meter end = last_words (is_none meter.turns_left) ++ Retires place meter.ports end ∷ []
 
-abbrev pub retirement_where : {P : Type 0} → Bool → SessionView × QuotaPortsView P → List (SystemCall P)
-retirement_where true place = parting place.1 (end_of place)
-retirement_where false place = []
+-- ---- after the turns
 
--- a closed session is retired
-abbrev pub retirement : {P : Type 0} → SessionView × QuotaPortsView P → List (SystemCall P)
-retirement place = retirement_where (is_closed place.0) place
+-- a session that does not rest goes to the end of the queue
+abbrev pub queued_unless : {P : Type 0} → Bool → ServiceView P → ℕ → ServiceView P
+queued_unless true run place = run
+queued_unless false run place = record run { ready = put_back run.ready place }
 
--- from the last place to the first
-abbrev pub retirements : {P : Type 0} → List (SessionView × QuotaPortsView P) → List (SystemCall P)
-retirements [] = []
-retirements (place ∷ places) = retirements places ++ retirement place
+-- A session that is closed is retired, and its place is free. Any other rests, or goes to the end of the queue.
+abbrev pub LeavesSession : {P : Type 0} → Bool → ServiceView P → ℕ → SessionView × QuotaPortsView P → List (SystemCall P) →
+    ServiceView P → Type 0
+LeavesSession true old place held answers new =
+    (answers ≡ parting place held.1 (end_of held)) × (new ≡ record old { slab = with_place old.slab place Free })
+LeavesSession false old place held answers new = (rests : Bool)
+    × AsksToRest held.1.made_progress place held.1.ports answers rests × (new ≡ queued_unless rests old place)
 
--- the sessions that are not closed, in their order
-abbrev pub remaining : {P : Type 0} → List (SessionView × QuotaPortsView P) → List (SessionView × QuotaPortsView P)
-remaining places = filter (λ place. not (is_closed place.0)) places
+-- ---- a visit
 
-abbrev pub RemovesClosed : {P : Type 0} → HubView (QuotaPortsView P) → List (SystemCall P) → HubView (QuotaPortsView P) → Type 0
-RemovesClosed old answers new = (answers ≡ retirements old.places) × (new ≡ with_places old (remaining old.places))
+-- the session at this place has its turns, at most `quantum`, and then is retired, or rests, or goes to the end of the queue
+pub record VisitsSession {P : Type 0} (transition : P → PortCall → P → Type 0) (old : ServiceView P) (place : ℕ)
+    (answers : List (SystemCall P)) (turns : ℕ) (new : ServiceView P) : Type 0 where
+  pub first : List (SystemCall P)
+  pub second : List (SystemCall P)
+  pub turned : SlabView (QuotaPortsView P)
+  pub held : SessionView × QuotaPortsView P
+  pub takes : TakesTurns transition true quantum old.slab place first turns turned
+  pub there : IsAt turned place (Held held)
+  pub leaves : LeavesSession (is_closed held.0) (record old { slab = turned }) place held second new
+  pub asked : answers ≡ first ++ second
+
+-- ports with a full quota of turns, which delivered and took nothing; new ports count as progress, so that their session
+-- has a turn in the same visit
+abbrev pub fresh : {P : Type 0} → P → ℕ → QuotaPortsView P
+fresh ports turns = record {
+  ports = ports;
+  turns_left = Some turns;
+  made_progress = true;
+  first_synthetic_end = None;
+  bytes = no_bytes;
+}
+
+-- A completed connect becomes a session in its opening state, which is visited. A failed one is reported, and its place is
+-- free. One without a result rests.
+abbrev pub Meets : {P : Type 0} → (P → PortCall → P → Type 0) → Connect P → ServiceView P → ℕ → List (SystemCall P) → ℕ →
+    ServiceView P → Type 0
+Meets {P} transition (Ready ports) old place answers turns new = (opened : SlabView (QuotaPortsView P))
+    × OpensAt old.slab place (fresh ports old.counters.turns) opened
+    × VisitsSession transition (record old { slab = opened }) place answers turns new
+Meets transition Failed old place answers turns new = (answers ≡ Notifies CannotReach ∷ []) × (turns ≡ 1)
+    × (new ≡ record old { slab = with_place old.slab place Free })
+Meets transition Pending old place answers turns new = (answers ≡ []) × (turns ≡ 1) × (new ≡ old)
+
+-- The visit of a place with this. One that is free stays as it is: something may be reported of it after its session ended.
+-- A visit counts as one turn at least, so that a round ends.
+abbrev pub VisitsPlaceWith : {P : Type 0} → (P → PortCall → P → Type 0) → Option (Place (SessionView × QuotaPortsView P)) →
+    ServiceView P → ℕ → List (SystemCall P) → ℕ → ServiceView P → Type 0
+VisitsPlaceWith transition None old place answers turns new = (answers ≡ []) × (turns ≡ 1) × (new ≡ old)
+VisitsPlaceWith transition (Some Free) old place answers turns new = (answers ≡ []) × (turns ≡ 1) × (new ≡ old)
+VisitsPlaceWith {P} transition (Some Kept) old place answers turns new = (connect : Connect P) × (others : List (SystemCall P))
+    × (answers ≡ Connects place connect ∷ others) × Meets transition connect old place others turns new
+VisitsPlaceWith transition (Some (Held held)) old place answers turns new =
+    VisitsSession transition old place answers turns new
+
+-- the next place of the queue is taken out and visited, after this many turns of the round
+pub record VisitsNext {P : Type 0} (transition : P → PortCall → P → Type 0) (before : ℕ) (old : ServiceView P) (place : ℕ)
+    (answers : List (SystemCall P)) (turns : ℕ) (new : ServiceView P) : Type 0 where
+  pub ready : ReadyView
+  pub room : before + quantum ≤ most_in_round
+  pub takes : TakesNext (nat_le (before + quantum + left_to_moving) most_in_round) old.ready place ready
+  pub visits : VisitsPlaceWith transition (slice_get old.slab.places place) (record old { ready = ready }) place answers turns new
+
+-- these places are visited, one after another, from this many turns of the round on until that many
+abbrev pub Visits : {P : Type 0} → (P → PortCall → P → Type 0) → ℕ → List ℕ → ServiceView P → List (SystemCall P) → ℕ →
+    ServiceView P → Type 0
+Visits transition before [] old answers after new = (answers ≡ []) × (after ≡ before) × (new ≡ old)
+Visits {P} transition before (place ∷ places) old answers after new =
+    (mid : ServiceView P) × (first : List (SystemCall P)) × (second : List (SystemCall P)) × (turns : ℕ)
+    × (answers ≡ first ++ second) × VisitsNext transition before old place first turns mid
+    × Visits transition (before + turns) places mid second after new
+
+-- ---- a bot is accepted
+
+-- one more bot may be accepted: not all have come, and a place is free
+abbrev pub may_accept : {P : Type 0} → ServiceView P → Bool
+may_accept run = nat_lt run.counters.accepted run.counters.sessions && list_any is_free run.slab.places
+
+-- A bot that came has its place, which is visited, since its connect may have failed already.
+abbrev pub come : {P : Type 0} → Bool → ServiceView P → ℕ → ServiceView P
+come true run place = record {
+  slab = with_place run.slab place Kept;
+  counters = record run.counters { accepted = run.counters.accepted + 1 };
+  ready = woken run.ready place;
+}
+come false run place = run
+
+-- the system is called once for a free place if one more bot may be accepted, otherwise not
+abbrev pub AdmitsWhere : {P : Type 0} → Bool → ServiceView P → List (SystemCall P) → ServiceView P → Type 0
+AdmitsWhere true old answers new = (place : ℕ) × (came : Bool) × IsAt old.slab place Free
+    × (answers ≡ Accepts place came ∷ []) × (new ≡ come came old place)
+AdmitsWhere false old answers new = (answers ≡ []) × (new ≡ old)
+
+abbrev pub Admits : {P : Type 0} → ServiceView P → List (SystemCall P) → ServiceView P → Type 0
+Admits old = AdmitsWhere (may_accept old) old
 
 -- ---- a round
 
--- whether a call is progress: an accepted bot, a completed or failed connect, a retirement, or a notice
-abbrev pub is_progress : {P : Type 0} → SystemCall P → Bool
-is_progress (Begins orders) = false
-is_progress (Shows ports status) = false
-is_progress (ReportsNews ports news) = false
-is_progress (BeginsTurn before after) = false
-is_progress (Watches ports) = false
-is_progress (Accepts came) = came
-is_progress (Connects (Ready ports)) = true
-is_progress (Connects Failed) = true
-is_progress (Connects Pending) = false
-is_progress (Retires ports end) = true
-is_progress (Notifies notice) = true
-is_progress Waits = false
-
-abbrev pub any_progress : {P : Type 0} → List (SystemCall P) → Bool
-any_progress answers = list_any is_progress answers
-
--- one wait if no progress was made
-abbrev pub wait_where : {P : Type 0} → Bool → List (SystemCall P)
-wait_where true = []
-wait_where false = Waits ∷ []
-
--- The system begins a round with orders, by which the status of each session may be shown, and no bot may be accepted
--- any more. At most one bot is accepted, and at most one connect completes or fails. Each session that is due a turn has
--- one, or more in a row, each of which the system begins. Closed sessions are removed. There is one wait, exactly if no
--- progress was made and the run is not done. The visits of the round have it watch the ports of each session.
+-- The network is polled, and the poll blocks only if the queue is empty. It wakes places, and returns orders, by which the
+-- status of each session may be shown, and no bot may be accepted any more. Then places of the queue are visited, until it
+-- is empty or another visit might exceed the turns of a round. At most one bot is accepted.
 pub record Round {P : Type 0} (transition : P → PortCall → P → Type 0) (old : ServiceView P)
     (answers : List (SystemCall P)) (new : ServiceView P) : Type 0 where
   pub orders : Orders
+  pub woken : List ℕ
+  pub visited : List ℕ
+  pub visits : List (SystemCall P)
   pub admission : List (SystemCall P)
-  pub meeting : List (SystemCall P)
-  pub beginnings : List (SystemCall P)
-  pub removal : List (SystemCall P)
-  pub came : AdmissionCounters
-  pub connected : HubView (QuotaPortsView P)
-  pub turned : HubView (QuotaPortsView P)
-  pub admits : Admits (length old.hub.places) (heeding orders old.counters) admission came
-  pub finishes : FinishesConnect old.hub came meeting connected new.counters
-  pub turns : TurnsAll transition connected beginnings turned
-  pub removes : RemovesClosed turned removal new.hub
-  -- in any case no more sessions and connects than the limit at once, and no more bots than the limit in all
-  pub within : IsWithinQuotas new.hub new.counters
-  pub asked : answers ≡ opening orders old.hub.places ++ admission ++ meeting ++ beginnings ++ removal ++ wait_where
-      (any_progress admission || any_progress meeting || any_moved turned.places || any_progress removal || is_done new)
+  pub turns : ℕ
+  pub mid : ServiceView P
+  pub takes : Visits transition 0 visited (polled old woken orders) visits turns mid
+  pub enough : (most_in_round < turns + quantum) ⊎ (listed mid.ready ≡ [])
+  pub admits : Admits mid admission new
+  pub sound : IsRunSound new
+  pub asked : answers ≡ opening old woken orders ++ visits ++ admission
 
 -- ---- a run
 
@@ -417,18 +302,12 @@ Rounds {P} transition (suc n) old answers new =
 -- a run with no bot yet
 abbrev pub initial_service : {P : Type 0} → Settings → ServiceView P
 initial_service settings = record {
-  hub = record {
+  slab = record {
     limits = limits_with settings.config (words_of settings.words);
-    max = settings.max_sessions;
-    places = [];
+    places = all_free settings.max_sessions;
   };
-  counters = record {
-    max_sessions = settings.max_sessions;
-    sessions = bots_in_all settings;
-    turns = settings.turns;
-    connecting = 0;
-    accepted = 0;
-  };
+  counters = record { sessions = bots_in_all settings; turns = settings.turns; accepted = 0 };
+  ready = record { fresh = []; moving = []; places = settings.max_sessions };
 }
 
 -- rounds from the opening, until all bots were served and no session is left
@@ -438,22 +317,27 @@ Serves {P} transition settings answers =
 
 -- ---- a run that is broken off
 
--- A round whose new session was refused its memory. It began with orders, and accepted at most one bot, as any round; a
--- connect was under way and completed, and then the round ends. The ports are dropped; no session had a turn, and none is
--- removed.
--- `Refuses` is the allocator's relation of that name.
-pub record BreaksOff {P : Type 0} (Refuses : ℕ → Type 0) (old : ServiceView P) (answers : List (SystemCall P))
-    (new : ServiceView P) : Type 0 where
+-- A round whose new session was refused its memory. It began as any round, and some places were visited. At the next place
+-- a connect was under way and completed, and then the round ends. The ports are dropped. `Refuses` is the allocator's
+-- relation of that name.
+pub record BreaksOff {P : Type 0} (Refuses : ℕ → Type 0) (transition : P → PortCall → P → Type 0) (old : ServiceView P)
+    (answers : List (SystemCall P)) (new : ServiceView P) : Type 0 where
   pub orders : Orders
-  pub admission : List (SystemCall P)
-  pub came : AdmissionCounters
+  pub woken : List ℕ
+  pub visited : List ℕ
+  pub visits : List (SystemCall P)
+  pub turns : ℕ
+  pub mid : ServiceView P
+  pub ready : ReadyView
+  pub place : ℕ
   pub ports : P
-  pub admits : Admits (length old.hub.places) (heeding orders old.counters) admission came
-  pub under_way : (came.connecting == 0) ≡ false
-  pub asked : answers ≡ opening orders old.hub.places ++ admission ++ Connects (Ready ports) ∷ []
+  pub takes : Visits transition 0 visited (polled old woken orders) visits turns mid
+  pub next : TakesNext (nat_le (turns + quantum + left_to_moving) most_in_round) mid.ready place ready
+  pub under_way : IsAt mid.slab place Kept
+  pub asked : answers ≡ opening old woken orders ++ visits ++ Connects place (Ready ports) ∷ []
   -- the memory of a body of the longest length
-  pub refused : Refuses old.hub.limits.cap
-  pub leaves : new ≡ record { hub = old.hub; counters = arrived came }
+  pub refused : Refuses old.slab.limits.cap
+  pub leaves : new ≡ record mid { ready = ready }
 
 -- rounds from the opening, and a broken-off round of a run that is not done
 pub record RunsOut {P : Type 0} (Refuses : ℕ → Type 0) (transition : P → PortCall → P → Type 0) (settings : Settings)
@@ -465,7 +349,7 @@ pub record RunsOut {P : Type 0} (Refuses : ℕ → Type 0) (transition : P → P
   pub end : ServiceView P
   pub rounds : Rounds transition n (initial_service settings) before mid
   pub going_on : is_done mid ≡ false
-  pub breaks : BreaksOff Refuses mid last end
+  pub breaks : BreaksOff Refuses transition mid last end
   pub asked : answers ≡ before ++ last
 
 -- all rounds from the opening that a run may make

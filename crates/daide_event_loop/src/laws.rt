@@ -2,8 +2,8 @@
 
 ghost use Rattle.daide_event_loop.specs.Served.{SessionsAreServed, OrdersAreHeeded, MovesAreAnswered, TurnsAreCounted, BytesAreCounted};
 ghost use Rattle.daide_event_loop.specs.Independence.{SessionsAreIndependent};
-ghost use Rattle.daide_event_loop.specs.Attendance.{RoundsAttendAll};
-ghost use Rattle.daide_event_loop.specs.Waiting.{RunsAreIdleAtWaits};
+ghost use Rattle.daide_event_loop.specs.Fairness.{RoundsAreShort, ReadyPlacesAdvance};
+ghost use Rattle.daide_event_loop.specs.Waiting.{RestingSessionsAreIdle};
 
 use daide_io::ports::Ports;
 
@@ -25,7 +25,7 @@ pub fn orders_are_heeded<P: Ports>()
     ensures { OrdersAreHeeded P.transition }
 {}
 
-/// What a turn's calls returned decides whether anything moved in it, and so whether a round waits.
+/// What a turn's calls returned decides whether anything moved in it, and so whether another turn follows in the visit.
 pub fn moves_are_answered<P: Ports>()
     ensures { MovesAreAnswered P.transition }
 {}
@@ -55,28 +55,28 @@ pub fn sessions_are_independent<P: Ports, Q: Ports>()
     ensures { SessionsAreIndependent P.transition Q.transition }
 {}
 
-/// At each wait a run is idle, and not done (`IsIdleRun`). The last turn of each session made no progress: the clock reported
-/// nothing, each side for whose bytes it has room returned none, and each wire for which bytes are queued took none
-/// (`IsIdleSession`). By that turn its ports came to their present value. In the round that waits the system began the
-/// turn, and then was to watch these ports, or it reported no news for them (`IsIdleAtWait`). If one more bot may be
-/// accepted, none came; if connects are under way, none has a result. After its visits the round makes no call but the
-/// wait. So if the system reports all news, and waits for the rest of those that it watches or reported no news for, no
-/// wake-up is lost.
+/// After any rounds of a run, each place that is used and not in its queue is at rest (`IsAtRest`). Of a session, the last
+/// turn made no progress: the clock reported nothing, each side for whose bytes it has room returned none, and each wire for
+/// which bytes are queued took none (`IsIdleSession`). By that turn its ports came to their present value. Then the system
+/// found that nothing may be done at once for them, and since then no poll woke the place, and no call was made for it. Of a
+/// connect, the system had no result. A poll may block only if the queue is empty (`Round`), so at such a poll each used
+/// place is at rest. So if a system wakes each place for which there is something to do, no wake-up is lost.
 ///
-/// Not said: that the system reports all news. Two sessions may have equal ports; then the clauses on calls speak of
-/// both.
-pub fn runs_are_idle_at_waits<P: Ports>()
-    ensures { RunsAreIdleAtWaits P.transition }
+/// Not said: that the system does.
+pub fn resting_sessions_are_idle<P: Ports>()
+    ensures { RestingSessionsAreIdle P.transition }
 {}
 
-/// In each round each session is attended, whatever the others do: it had a turn, or the system reported no news for its
-/// ports (`IsAttended`). So a session with news has at least one turn in each round. One that has bytes without end has
-/// four (`most_turns`), unless it was calm when it was visited: then it has at most eight, and from 32 turns on it counts
-/// as busy (`load_at_turn`). In a round, a calm session with news waits for at most 32 turns of busy ones, since the calm
-/// ones are visited again after each 32, four for each visit (`VisitsNext`). Each round counts anew, so over the end of a
-/// round it may wait for 60.
+/// The visits of a round begin at most 32 turns, so the network is polled again after them.
 ///
 /// Not said: how long a turn takes.
-pub fn rounds_attend_all<P: Ports>()
-    ensures { RoundsAttendAll P.transition }
+pub fn rounds_are_short<P: Ports>()
+    ensures { RoundsAreShort P.transition }
+{}
+
+/// A place that the queue has after the poll of a round is visited in the round, or advances, whatever the others do: by
+/// three places or more if it was at rest before, by one or more if it had turns. So from its wake-up on, a session at
+/// position `k` waits for at most `k / 3` rounds more.
+pub fn ready_places_advance<P: Ports>()
+    ensures { ReadyPlacesAdvance P.transition }
 {}

@@ -43,7 +43,7 @@ impl<P: Ports> Model for QuotaPorts<P> {
 }
 
 impl<P: Ports> QuotaPorts<P> {
-    ghost use Rattle.daide_event_loop.specs.QuotaPorts.{Meters, beginning};
+    ghost use Rattle.daide_event_loop.specs.QuotaPorts.{Meters, beginning, AsksToRest};
 
     /// Wraps ports with a quota of `turns` turns.
     pub fn new(ports: P, turns: u64) -> QuotaPorts<P>
@@ -109,7 +109,8 @@ impl<P: Ports> QuotaPorts<P> {
     /// Has the session rest, if its last turn made no progress: returns true if nothing may be done at once for it either.
     #[inline(always)]
     pub fn rests<S: System<P>>(&self, place: usize, system: &mut S) -> bool
-        ensures { TransitsBy S.transition system.old (rest_unless self.now.made_progress place self.now.ports result) system.new }
+        ensures { (answers : List (SystemCall P)) × TransitsBy S.transition system.old answers system.new
+            × AsksToRest self.now.made_progress place self.now.ports answers result }
     {
         !self.made_progress && system.rest(place, &self.ports)
     }

@@ -24,8 +24,8 @@ ghost use Rattle.daide_event_loop.specs.Serving.{IsServeCause, BreaksOff, GivesU
 
 use crate::admission_counters::AdmissionCounters;
 use crate::quota_ports::QuotaPorts;
-use daide_driver::hub::Removed;
 use daide_driver::slab::Slab;
+use daide_driver::slot::Removed;
 use daide_driver::status::session_status;
 use daide_frame::memory::Memory;
 use daide_io::ports::Ports;
