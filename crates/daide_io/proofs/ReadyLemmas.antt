@@ -3,7 +3,7 @@ use Rattle.std.proofs.Common.{◌≡◌, ℕ, zero, suc, ◌+◌, ◌≤◌, ◌
 use Rattle.std.proofs.Common.{refl, ap, sym, ◌∙◌, subst, arith}
 use Rattle.std.specs.Prelude.{if◌then◌else◌, nat_lt, ◌&&◌, not}
 use Rattle.std.proofs.lemmas.Bool.{lt-ltb}
-use Rattle.daide_io.specs.ReadyQueue.{ReadyView, is_same, occurrences_of, one_if, mark_at, AreMarked, may_join}
+use Rattle.daide_io.specs.ReadyQueue.{ReadyView, is_same, occurrences_of, one_if, mark_at, is_among, listed, AreMarked, may_join, woken, put_back}
 
 few : (b : Bool) → one_if b ≤ 1
 few true = omega arith
@@ -62,7 +62,7 @@ leaves old new marks at more h k = omega (arith, more k, h k, clear_marks marks 
 
 -- ---- how many
 
-count : List Bool → ℕ
+abbrev count : List Bool → ℕ
 count [] = 0
 count (b ∷ bs) = one_if b + count bs
 
@@ -150,3 +150,35 @@ less_moving fresh moving at k =
 -- a mark that was read as false
 pub read_false : (marks : List Bool) (at : ℕ) (x : Bool) → x ≡ get_or marks at x → x ≡ false → mark_at marks at ≡ false
 read_false marks at x h e = sym (subst (λ (y : Bool). y ≡ get_or marks at y) e h)
+
+pub length_set : (marks : List Bool) (at : ℕ) (b : Bool) → length (slice_set marks at b) ≡ length marks
+length_set [] at b = refl
+length_set (x ∷ marks) zero b = refl
+length_set (x ∷ marks) (suc at) b = omega (arith, length_set marks at b)
+
+-- a place with a mark is one
+pub is_there : (marks : List Bool) (at : ℕ) → 1 ≤ one_if (mark_at marks at) → at < length marks
+is_there [] at h =
+    let free : one_if (mark_at [] at) ≡ 0 = refl in
+    absurd (omega (arith, h, free))
+is_there (b ∷ bs) zero h = omega arith
+is_there (b ∷ bs) (suc at) h = omega (arith, is_there bs at h)
+
+-- one without a mark may join
+pub free_joins : (fresh moving : List ℕ) (marks : List Bool) (at : ℕ) → AreMarked marks (fresh ++ moving) →
+    at < length marks → mark_at marks at ≡ false →
+    may_join (record { fresh = fresh; moving = moving; places = length marks }) at ≡ true
+free_joins fresh moving marks at h l e =
+    let free : is_among at (fresh ++ moving) ≡ false = ap (nat_lt 0) (h at ∙ ap one_if e) in
+    let there : nat_lt at (length marks) ≡ true = lt-ltb at (length marks) l in
+    ap (λ (b : Bool). b && not (is_among at (fresh ++ moving))) there ∙ ap (λ (b : Bool). not b) free
+
+pub wakes : (queue : ReadyView) (at : ℕ) → may_join queue at ≡ true →
+    record queue { fresh = queue.fresh ++ at ∷ [] } ≡ woken queue at
+wakes queue at e =
+    sym (ap (λ (b : Bool). if b then record queue { fresh = queue.fresh ++ at ∷ [] } else queue) e)
+
+pub returns : (queue : ReadyView) (at : ℕ) → may_join queue at ≡ true →
+    record queue { moving = queue.moving ++ at ∷ [] } ≡ put_back queue at
+returns queue at e =
+    sym (ap (λ (b : Bool). if b then record queue { moving = queue.moving ++ at ∷ [] } else queue) e)

@@ -3,8 +3,7 @@
 //! A place is in at most one of two lists. One that was at rest and becomes ready joins the end of `fresh`. One that is
 //! put back after its turns joins the end of `moving`. So each push and pop is one step, whatever the number of places.
 
-ghost use Rattle.std.specs.Prelude.{◌≡◌, ◌&&◌, ◌==◌, [], ◌∷◌, false, length, slice_set, IfOk, IfSome, IfNone, OnErr};
-ghost use Rattle.std.specs.VecDeque.{deque_capacity};
+ghost use Rattle.std.specs.Prelude.{◌≡◌, ◌&&◌, ◌==◌, [], ◌∷◌, false, length, IfOk, IfSome, IfNone, OnErr};
 ghost use Rattle.daide_io.specs.ReadyQueue.{listed, woken, put_back, TakesFresh, TakesMoving, TakesNext};
 
 use daide_frame::memory::Memory;
@@ -63,20 +62,6 @@ impl<A: Memory + Copy> ReadyQueue<A> {
     }
 }
 
-/// Takes the first place of a list, and its mark off; `None` if the list is empty.
-fn take_first<A: Allocator>(list: &mut VecDeque<usize, A>, marks: &mut [bool]) -> Option<usize>
-    ensures some { IfSome result (λ place. (list.old.items ≡ place ∷ list.new.items)
-        × (marks.new ≡ slice_set marks.old place false)) }
-    ensures none { IfNone result ((list.old.items ≡ []) × (list.new.items ≡ []) × (marks.new ≡ marks.old)) }
-    ensures room { deque_capacity list.new ≡ deque_capacity list.old }
-{
-    let place = list.pop_front()?;
-    if let Some(mark) = marks.get_mut(place) {
-        *mark = false;
-    }
-    Some(place)
-}
-
 impl<A: Allocator> ReadyQueue<A> {
     /// Returns whether no place is to be visited.
     pub fn is_empty(&self) -> bool
@@ -112,7 +97,9 @@ impl<A: Allocator> ReadyQueue<A> {
         ensures some { IfSome result (λ place. TakesFresh self.old place self.new) }
         ensures none { IfNone result ((self.old.fresh ≡ []) × (self.new ≡ self.old)) }
     {
-        take_first(&mut self.fresh, &mut self.marks)
+        let place = self.fresh.pop_front()?;
+        self.marks[place] = false;
+        Some(place)
     }
 
     /// Takes out the first place that had turns; `None` if there is none.
@@ -120,7 +107,9 @@ impl<A: Allocator> ReadyQueue<A> {
         ensures some { IfSome result (λ place. TakesMoving self.old place self.new) }
         ensures none { IfNone result ((self.old.moving ≡ []) × (self.new ≡ self.old)) }
     {
-        take_first(&mut self.moving, &mut self.marks)
+        let place = self.moving.pop_front()?;
+        self.marks[place] = false;
+        Some(place)
     }
 
     /// Takes out the next place: the first of those that were at rest, or of those that had turns if there is none; the

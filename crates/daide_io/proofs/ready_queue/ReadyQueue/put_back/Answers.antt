@@ -1,6 +1,7 @@
-use Rattle.std.proofs.Common.{◌≡◌, ℕ, ◌+◌, ◌<◌, ◌++◌, [], ◌∷◌, true, false, length, arith, subst, sym, ap, rw, ◌∙◌, List, slice_set}
-use Rattle.daide_io.specs.ReadyQueue.{ReadyView, AreMarked, mark_at}
-use Rattle.daide_io.proofs.ReadyLemmas.{read_false, room, joins, more_moving, join}
+use Rattle.std.proofs.Common.{◌≡◌, ℕ, ◌+◌, ◌<◌, ◌++◌, [], ◌∷◌, true, false, length, arith, subst, sym, ap, ◌∙◌, List, slice_set}
+use Rattle.daide_io.specs.ReadyQueue.{ReadyView, AreMarked, mark_at, put_back}
+use Rattle.daide_io.proofs.ReadyLemmas.{read_false, room, joins, more_moving, length_set, free_joins}
+use Rattle.daide_io.proofs.ReadyLemmas as lemmas
 use Rattle.daide_io.proofs.ready_queue.ReadyQueue.put_back.Goals as goal
 
 pub push_back_reserved-requires : goal.push_back_reserved-requires
@@ -14,4 +15,19 @@ push_back_reserved-requires g c =
       arith,
       room s.fresh.items s.moving.items s.marks.items c.args.place c.self.invariant.0 there free,
       c.self.invariant,
+    )
+
+pub invariant_of-self : goal.invariant_of-self
+invariant_of-self g c =
+    let s = c.self.inside in
+    let free : mark_at s.marks.items c.args.place ≡ false
+    = read_false s.marks.items c.args.place c.index.result.now c.index.ensures c.if-index.false in
+    let there : c.args.place < length s.marks.items
+    = omega (arith, c.len.ensures, c.if-place-len.false, s.marks.ok.0) in (
+      subst (λ (xs : List ℕ). AreMarked (slice_set s.marks.items c.args.place true) (s.fresh.items ++ xs))
+          (sym c.push_back_reserved.ensures.items)
+          (joins (s.fresh.items ++ s.moving.items) (s.fresh.items ++ (s.moving.items ++ c.args.place ∷ [])) s.marks.items c.args.place
+          (more_moving s.fresh.items s.moving.items c.args.place) c.self.invariant.0 there free),
+      omega (arith, c.self.invariant.1, length_set s.marks.items c.args.place true, c.push_back_reserved.ensures.capacity),
+      omega (arith, c.self.invariant.2, length_set s.marks.items c.args.place true, c.push_back_reserved.ensures.capacity),
     )
