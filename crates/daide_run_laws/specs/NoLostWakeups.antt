@@ -1,4 +1,4 @@
--- No wake-up is lost: what each session of a run over sockets waits for when the run waits. (own)
+-- No wake-up is lost: what each session of a run over sockets waits for while a poll may block. (own)
 use Rattle.std.specs.Prelude.{◌≡◌, ◌⊎◌, ℕ, ◌-◌, ◌<◌, ◌++◌, Bool, true, false, List, [], ◌∷◌, length, Option, Some, All}
 use Rattle.std.specs.Time.{instant_nanos}
 use Rattle.std.specs.declared.time.Duration.{Duration}
@@ -7,7 +7,11 @@ use Rattle.daide_frame.specs.declared.side.Side.{Side}
 use Rattle.daide_protocol.specs.Wires.{SessionView, queued, room_of, no_frame}
 use Rattle.daide_io.specs.Network.{NetworkCall}
 use Rattle.daide_io.specs.Ports.{PortCall}
-use Rattle.daide_io.specs.System.{SystemCall, Waits, TransitsBy}
+use Rattle.daide_io.specs.Streams.{StreamCall}
+use Rattle.daide_io.specs.System.{SystemCall, Polls, TransitsBy}
+use Rattle.daide_io.specs.declared.system.Orders.{Orders}
+use Rattle.daide_driver.specs.declared.place.Place.{Place}
+use Rattle.daide_driver.specs.Slab.{IfHeldAt}
 use Rattle.daide_settings.specs.declared.settings.Settings.{Settings}
 use Rattle.daide_event_loop.specs.QuotaPorts.{QuotaPortsView}
 use Rattle.daide_event_loop.specs.Serving.{ServiceView, Round, Rounds, initial_service, is_done, may_accept, heeding}
@@ -16,20 +20,20 @@ use Rattle.daide_sockets.specs.declared.socket.Socket.{Socket}
 use Rattle.daide_sockets.specs.InTime.{IsAtMost}
 use Rattle.daide_sockets.specs.Lingering.{IsWriting}
 use Rattle.daide_sockets.specs.Scheduling.{RunState, Schedules, AwaitsBots}
-use Rattle.daide_sockets.specs.Table.{Table, IsNoTime, is_reported_at}
+use Rattle.daide_sockets.specs.Table.{Table, IsNoTime, is_reported_at, key_of}
 use Rattle.daide_sockets.specs.Timers.{SessionTimers}
-use Rattle.daide_sockets.specs.Wakeups.{SessionSockets, Wakes, RestsOnce, session_due}
+use Rattle.daide_sockets.specs.Wakeups.{SessionSockets, Wakes, PollsForPlaces, session_due}
 
 -- the socket of a side
 abbrev pub socket_at : {S : Type 0} → SessionSockets S → Side → Socket S
 socket_at sockets = stream_of (sockets.bot, sockets.server)
 
--- A session sleeps while the network is polled for this time. Nothing that was reported of its sockets is left. A side for
--- whose bytes it has room is not readable, and nothing was read ahead. A side for which frames are queued, or bytes
+-- The session at a place sleeps while the network is polled for this time. Nothing that was reported of its sockets is left.
+-- A side for whose bytes it has room is not readable, and nothing was read ahead. A side for which frames are queued, or bytes
 -- buffered, is not writable. The poll ends by the session's nearest deadline.
-pub record Sleeps {S : Type 0} (table : Table) (time : Option Duration) (session : SessionView) (sockets : SessionSockets S) :
-    Type 0 where
-  pub reported : (side : Side) → is_reported_at table (socket_at sockets side).key ≡ false
+pub record Sleeps {S : Type 0} (table : Table) (time : Option Duration) (place : ℕ) (session : SessionView)
+    (sockets : SessionSockets S) : Type 0 where
+  pub reported : (side : Side) → is_reported_at table (key_of place side) ≡ false
   pub read : (side : Side) → 0 < room_of session side →
       ((socket_at sockets side).readiness.may_read ≡ false) × ((socket_at sockets side).stream.read_buffer ≡ [])
   pub written : (side : Side) → no_frame (queued session side) ≡ false →
@@ -39,22 +43,25 @@ pub record Sleeps {S : Type 0} (table : Table) (time : Option Duration) (session
   pub in_time : (now due : Instant) → table.reading ≡ Some now → session_due sockets ≡ Some due →
       IsAtMost time (instant_nanos due - instant_nanos now)
 
--- The network is polled once, for the time of a wait that watches others beside the sessions. For no time, or else each
+-- The network is polled once, for the time of a poll that watches others beside the places. For no time, or else each
 -- session sleeps.
-pub record WaitsAsleep {P S N C : Type 0} (transition : N → NetworkCall C → N → Type 0) (view : P → SessionSockets S)
-    (places : List (SessionView × QuotaPortsView P)) (old new : N × Table) : Type 0 where
+pub record PollsAsleep {P S N C : Type 0} (transition : N → NetworkCall C → N → Type 0) (view : P → SessionSockets S)
+    (places : List (Place (SessionView × QuotaPortsView P))) (woken : List ℕ) (old new : N × Table) : Type 0 where
   pub others : List (Bool × Option Instant)
-  pub rests : RestsOnce transition others old.0 old.1 new.0 new.1
-  pub asleep : IsNoTime rests.time ⊎ All (λ place. Sleeps old.1 rests.time place.0 (view place.1.ports)) places
+  pub polls : PollsForPlaces transition others true woken old.0 old.1 new.0 new.1
+  pub asleep : IsNoTime polls.time ⊎ ((place : ℕ) → IfHeldAt places place
+      (λ held. Sleeps old.1 polls.time place held.0 (view held.1.ports)))
 
--- In each round of a run over sockets that ends with a wait, the run waits asleep; `view` is the content of ports.
+-- Each poll of a run over sockets that may block polls asleep. A table has a deadline for each place. `view` is the content
+-- of ports.
 abbrev pub NoWakeupIsLost : {P S N C : Type 0} → (P → PortCall → P → Type 0) → (P → SessionSockets S) →
-    (N → NetworkCall C → N → Type 0) → Type 0
-NoWakeupIsLost {P} {S} {N} port_transition view transition = (settings : Settings) (n : ℕ)
-    (before round : List (SystemCall P)) (mid run : ServiceView P) (first old new : N × Table) →
-    Rounds port_transition n (initial_service settings) before mid → is_done mid ≡ false → Round port_transition mid (round ++ Waits ∷ []) run →
-    TransitsBy (Wakes transition view) first (before ++ round) old → Wakes transition view old Waits new →
-    WaitsAsleep transition view run.hub.places old new
+    (S → Option (List StreamCall)) → (N → NetworkCall C → N → Type 0) → Type 0
+NoWakeupIsLost {P} {S} {N} port_transition view calls transition = (settings : Settings) (n : ℕ)
+    (before others : List (SystemCall P)) (woken : List ℕ) (orders : Orders) (run next : ServiceView P)
+    (first old new : N × Table) → Rounds port_transition n (initial_service settings) before run → is_done run ≡ false →
+    Round port_transition run (Polls true woken orders ∷ others) next → length first.1.deadlines ≡ settings.max_sessions →
+    TransitsBy (Wakes transition calls view) first before old → Wakes transition calls view old (Polls true woken orders) new →
+    PollsAsleep transition view run.slab.places woken old new
 
 -- Take a round of a run over sockets that ends with a wait, and in which one more bot may be accepted. The wait takes no
 -- time while an accept is due; `timers` is the content of ports.
