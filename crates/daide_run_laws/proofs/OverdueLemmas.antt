@@ -21,7 +21,8 @@ use Rattle.daide_io.specs.Deadline.{earlier}
 use Rattle.daide_sockets.specs.Timers.{SessionTimers, BeginsAt, BeginsInTime, PullsInTime, KeepsTimers, SetsTimers, is_got}
 use Rattle.daide_sockets.specs.Times.{IsStallEnd, has_stalled, is_past}
 use Rattle.daide_sockets.specs.Wakeups.{session_due}
-use Rattle.daide_run_laws.specs.FreedPlaces.{IsLater, ClockGoesOn, one_if, peer_timeouts_left, timeouts_left}
+use Rattle.daide_run_laws.specs.FreedPlaces.{IsLater, ClockGoesOn, peer_timeouts_left, timeouts_left}
+use Rattle.daide_io.specs.ReadyQueue.{one_if}
 use Rattle.daide_run_laws.specs.FreedPlaces.{is_overdue, overdue_turns, deliveries, DeadlinesPassSeldom}
 use Rattle.daide_run_laws.proofs.BegunSessions.{begun_with}
 use Rattle.daide_run_laws.proofs.TimedSessions.{PortsSetTimers, own, KeepsStall, step_stall, made_or_spent}

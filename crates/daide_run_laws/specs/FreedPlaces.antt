@@ -9,6 +9,7 @@ use Rattle.std.specs.declared.time.Instant.{Instant}
 use Rattle.daide_frame.specs.declared.side.Side.{Side}
 use Rattle.daide_frame.specs.Side.{same_side}
 use Rattle.daide_protocol.specs.Wires.{SessionView}
+use Rattle.daide_io.specs.ReadyQueue.{one_if}
 use Rattle.daide_io.specs.declared.ports.Put.TheVariants.{Took}
 use Rattle.daide_io.specs.Network.{NetworkCall}
 use Rattle.daide_io.specs.Ports.{PortCall, TurnBegins, Clock, Pulled, Offered, EvolvesBy}
@@ -87,10 +88,6 @@ pub record KeepsTimeouts {S : Type 0} (old new : Socket S) : Type 0 where
       (new.stalls_at ≡ Some moment) ⊎ (new.stream.has_failed ≡ true)
 
 -- ---- what is left
-
-abbrev pub one_if : Bool → ℕ
-one_if true = 1
-one_if false = 0
 
 -- The timeouts that are left of a socket's peer after a turn at this reading: of its silence, if that is not over; and of
 -- a stall, unless the peer is given up.

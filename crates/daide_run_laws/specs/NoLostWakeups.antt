@@ -10,7 +10,7 @@ use Rattle.daide_io.specs.Ports.{PortCall}
 use Rattle.daide_io.specs.Streams.{StreamCall}
 use Rattle.daide_io.specs.System.{SystemCall, Polls, TransitsBy}
 use Rattle.daide_io.specs.declared.system.Orders.{Orders}
-use Rattle.daide_driver.specs.declared.place.Place.{Place}
+use Rattle.daide_driver.specs.declared.place.SlabPlace.{SlabPlace}
 use Rattle.daide_driver.specs.Slab.{IfHeldAt}
 use Rattle.daide_settings.specs.declared.settings.Settings.{Settings}
 use Rattle.daide_event_loop.specs.QuotaPorts.{QuotaPortsView}
@@ -46,7 +46,7 @@ pub record Sleeps {S : Type 0} (table : Table) (time : Option Duration) (place :
 -- The network is polled once, for the time of a poll that watches others beside the places. For no time, or else each
 -- session sleeps.
 pub record PollsAsleep {P S N C : Type 0} (transition : N → NetworkCall C → N → Type 0) (view : P → SessionSockets S)
-    (places : List (Place (SessionView × QuotaPortsView P))) (woken : List ℕ) (old new : N × Table) : Type 0 where
+    (places : List (SlabPlace (SessionView × QuotaPortsView P))) (woken : List ℕ) (old new : N × Table) : Type 0 where
   pub others : List (Bool × Option Instant)
   pub polls : PollsForPlaces transition others true woken old.0 old.1 new.0 new.1
   pub asleep : IsNoTime polls.time ⊎ ((place : ℕ) → IfHeldAt places place

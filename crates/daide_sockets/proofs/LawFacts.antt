@@ -14,7 +14,7 @@ use Rattle.daide_sockets.specs.Pairing.{Arriving, Paired, RunSockets, Transits}
 use Rattle.daide_sockets.specs.Lingering.{ClosingStream}
 use Rattle.daide_sockets.specs.Beside.{WaitsAreInTimeBeside, may_close_on, closing_due, may_connect, others_watched}
 use Rattle.daide_sockets.specs.Accounted.{SocketsAreAccounted}
-use Rattle.daide_sockets.specs.PairedOnce.{SessionsComeOnce, is_same}
+use Rattle.daide_sockets.specs.PairedOnce.{SessionsComeOnce, one_if_same}
 use Rattle.daide_sockets.specs.ClosingTime.{ReadingsGoOn, overdue_looks, bound_of, readings_of, IsClosingInTime, ClosingSocketsLeave}
 use Rattle.daide_sockets.specs.Rows.{AreRowsOf, closing_keys, is_key, occurrences_of, keys_of_arrivals, listener_keys}
 use Rattle.daide_sockets.specs.RowsOfRun.{NoRowLeaks, SessionsGoOn, keys_of_all, keys_of_sessions, taken_rows}
@@ -38,10 +38,10 @@ never_twice : {P S : Type 0} (to_give taken : S → Option (List ℕ)) (calls : 
     TransitsBy (Transits to_give taken calls pair) old (Connects (Ready a) ∷ Connects (Ready b) ∷ []) new →
     (pair a).number ≡ 5 → (pair b).number ≡ 5 → ⊥
 never_twice to_give taken calls law pair old new a b none no_arrivals goes first second =
-    let most : is_same (pair a).number 5 + (is_same (pair b).number 5 + 0) ≤ 1 =
+    let most : one_if_same (pair a).number 5 + (one_if_same (pair b).number 5 + 0) ≤ 1 =
     law pair old new (Connects (Ready a) ∷ Connects (Ready b) ∷ []) 5 none no_arrivals goes in
-    let one : is_same (pair a).number 5 ≡ 1 = ap (λ (m : ℕ). is_same m 5) first in
-    let other : is_same (pair b).number 5 ≡ 1 = ap (λ (m : ℕ). is_same m 5) second in
+    let one : one_if_same (pair a).number 5 ≡ 1 = ap (λ (m : ℕ). one_if_same m 5) first in
+    let other : one_if_same (pair b).number 5 ≡ 1 = ap (λ (m : ℕ). one_if_same m 5) second in
     absurd (omega (arith, most, one, other))
 
 -- of three sessions that a wait watches, the second has work: the wait takes no time

@@ -6,13 +6,13 @@ use Rattle.daide_io.specs.System.{Retires, Notifies, Waits, TransitsBy}
 use Rattle.daide_io.specs.declared.system.Connect.TheVariants.{Ready, Failed, Pending}
 use Rattle.daide_io.specs.Streams.{StreamCall}
 use Rattle.daide_sockets.specs.Pairing.{Arriving, Paired, RunSockets, AllStayPending, ChecksArrivals, TakesOut, Transits}
-use Rattle.daide_sockets.specs.PairedOnce.{is_same, handed}
+use Rattle.daide_sockets.specs.PairedOnce.{one_if_same, handed}
 
 -- 1 if the number is not given yet
 abbrev to_come : ℕ → ℕ → ℕ
 to_come n came = if nat_lt came n then 1 else 0
 
-next_given : (n came : ℕ) → is_same (came + 1) n + to_come n (came + 1) ≤ to_come n came
+next_given : (n came : ℕ) → one_if_same (came + 1) n + to_come n (came + 1) ≤ to_come n came
 next_given n came = grind (arith)
 
 at_most_one : (n came : ℕ) → to_come n came ≤ 1
@@ -26,7 +26,7 @@ module _ {S : Type 0} (n : ℕ) where
   -- how often the number occurs among arrivals
   abbrev numbered : List (Arriving S) → ℕ
   numbered [] = 0
-  numbered (x ∷ xs) = is_same x.number n + numbered xs
+  numbered (x ∷ xs) = one_if_same x.number n + numbered xs
 
   numbered_append : (xs ys : List (Arriving S)) → numbered (xs ++ ys) ≡ numbered xs + numbered ys
   numbered_append [] ys = omega (arith)
@@ -37,16 +37,16 @@ module _ {S : Type 0} (n : ℕ) where
   numbered_goes : (xs ys : List (Arriving S)) → AllStayPending xs ys → numbered ys ≡ numbered xs
   numbered_goes [] ys h = ap numbered h
   numbered_goes (x ∷ xs) ys h =
-      let same : is_same h.0.number n ≡ is_same x.number n = ap (λ (m : ℕ). is_same m n) h.3.number in
+      let same : one_if_same h.0.number n ≡ one_if_same x.number n = ap (λ (m : ℕ). one_if_same m n) h.3.number in
       let rest = numbered_goes xs h.1 h.4 in
-      let whole : numbered ys ≡ is_same h.0.number n + numbered h.1 = ap numbered h.2 in
+      let whole : numbered ys ≡ one_if_same h.0.number n + numbered h.1 = ap numbered h.2 in
       omega (arith, same, rest, whole)
 
   abbrev left : RunSockets S → ℕ
   left sockets = numbered sockets.arrivals + to_come n sockets.came
 
   took_out : (old new : List (Arriving S)) (x : Arriving S) → TakesOut old x new →
-      numbered old ≡ is_same x.number n + numbered new
+      numbered old ≡ one_if_same x.number n + numbered new
   took_out old new x h =
       let a : numbered old ≡ numbered (h.seen ++ x ∷ h.rest) = ap numbered h.split in
       let b = numbered_append h.seen (x ∷ h.rest) in
@@ -82,15 +82,15 @@ module _ {S : Type 0} (n : ℕ) where
     one (Accepts true) old new h =
         let a : numbered new.arrivals ≡ numbered (old.arrivals ++ h.arrival ∷ []) = ap numbered h.arrivals in
         let b = numbered_append old.arrivals (h.arrival ∷ []) in
-        let c : is_same h.arrival.number n ≡ is_same (old.came + 1) n =
-        ap (λ (m : ℕ). is_same m n) (h.number ∙ h.came) in
+        let c : one_if_same h.arrival.number n ≡ one_if_same (old.came + 1) n =
+        ap (λ (m : ℕ). one_if_same m n) (h.number ∙ h.came) in
         let d : to_come n new.came ≡ to_come n (old.came + 1) = ap (to_come n) h.came in
         let e = next_given n old.came in
         omega (arith, a, b, c, d, e)
     one (Accepts false) old new h = let e : left new ≡ left old = ap left h in omega (arith, e)
     one (Connects (Ready ports)) old new h =
         let a = took_out old.arrivals new.arrivals h.0 h.1 in
-        let b : is_same (pair ports).number n ≡ is_same h.0.number n = ap (λ (m : ℕ). is_same m n) h.2.number in
+        let b : one_if_same (pair ports).number n ≡ one_if_same h.0.number n = ap (λ (m : ℕ). one_if_same m n) h.2.number in
         let c : to_come n new.came ≡ to_come n old.came = ap (to_come n) h.3 in
         omega (arith, a, b, c)
     one (Connects Failed) old new h =

@@ -7,13 +7,13 @@ use Rattle.daide_io.specs.Streams.{StreamCall}
 use Rattle.daide_sockets.specs.Pairing.{Paired, RunSockets, Transits}
 
 -- 1 if two numbers are the same, else 0
-abbrev pub is_same : ℕ → ℕ → ℕ
-is_same one other = if nat_eq one other then 1 else 0
+abbrev pub one_if_same : ℕ → ℕ → ℕ
+one_if_same one other = if nat_eq one other then 1 else 0
 
 -- how often ports of the session with this number were delivered
 abbrev pub handed : {P S : Type 0} → (P → Paired S) → ℕ → List (SystemCall P) → ℕ
 handed pair n [] = 0
-handed pair n (Connects (Ready ports) ∷ answers) = is_same (pair ports).number n + handed pair n answers
+handed pair n (Connects (Ready ports) ∷ answers) = one_if_same (pair ports).number n + handed pair n answers
 handed pair n (Connects Failed ∷ answers) = handed pair n answers
 handed pair n (Connects Pending ∷ answers) = handed pair n answers
 handed pair n (Begins orders ∷ answers) = handed pair n answers

@@ -138,13 +138,13 @@ is_poll (Follows before key is_followed after) = false
 is_poll (AsksConnect connection status) = false
 
 -- The network went from one value to another by calls, none of which was a poll.
-abbrev pub RunsBy : {N C : Type 0} → (N → NetworkCall C → N → Type 0) → N → List (NetworkCall C) → N → Type 0
-RunsBy transition old [] new = new ≡ old
-RunsBy {N} transition old (call ∷ calls) new = (mid : N) × transition old call mid × RunsBy transition mid calls new
+abbrev pub CallsNetworkBy : {N C : Type 0} → (N → NetworkCall C → N → Type 0) → N → List (NetworkCall C) → N → Type 0
+CallsNetworkBy transition old [] new = new ≡ old
+CallsNetworkBy {N} transition old (call ∷ calls) new = (mid : N) × transition old call mid × CallsNetworkBy transition mid calls new
 
 abbrev pub GoesUnpolled : {N C : Type 0} → (N → NetworkCall C → N → Type 0) → N → N → Type 0
 GoesUnpolled {N} {C} transition old new =
-    (calls : List (NetworkCall C)) × RunsBy transition old calls new × All (λ call. is_poll call ≡ false) calls
+    (calls : List (NetworkCall C)) × CallsNetworkBy transition old calls new × All (λ call. is_poll call ≡ false) calls
 
 -- ---- a turn
 
