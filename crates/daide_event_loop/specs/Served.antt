@@ -13,7 +13,7 @@ use Rattle.daide_io.specs.Ports.{PortCall, TurnBegins, Clock, Pulled, Offered, E
 use Rattle.daide_driver.specs.Headline.{untouched, IsBoundedAndExact}
 use Rattle.daide_driver.specs.Totals.{HasTotals}
 use Rattle.daide_driver.specs.Hub.{IsBegun, IsTurned}
-use Rattle.daide_driver.specs.Slab.{is_free, is_kept, is_held, IfHeld}
+use Rattle.daide_driver.specs.Slab.{is_free_place, is_kept, is_held, IfHeld}
 use Rattle.daide_settings.specs.declared.settings.Settings.{Settings}
 use Rattle.daide_io.specs.declared.system.Connect.TheVariants.{Ready, Failed}
 use Rattle.daide_io.specs.declared.system.Orders.{Orders}
@@ -143,7 +143,7 @@ HeedsStops (answer ∷ answers) =
 -- came and were served. Without an order to show the sessions, none is shown.
 pub record HeedsOrders {P : Type 0} (settings : Settings) (answers : List (SystemCall P)) (run : ServiceView P) : Type 0 where
   pub stops : HeedsStops answers
-  pub ends : 0 < stop_orders answers → is_done run ≡ list_all is_free run.slab.places
+  pub ends : 0 < stop_orders answers → is_done run ≡ list_all is_free_place run.slab.places
   pub goes_on : stop_orders answers ≡ 0 → run.counters.sessions ≡ bots_in_all settings
   pub shows : show_orders answers ≡ 0 → sum_over_calls show_calls answers ≡ 0
 

@@ -11,11 +11,11 @@ use Rattle.daide_protocol.specs.Wires.{SessionView, is_closed}
 use Rattle.daide_words.specs.Words.{words_of}
 use Rattle.daide_protocol.specs.Config.{limits_with}
 use Rattle.daide_io.specs.Ports.{PortCall}
-use Rattle.daide_io.specs.ReadyQueue.{ReadyView, listed, woken, woken_all, put_back, TakesNext}
+use Rattle.daide_io.specs.ReadyQueue.{ReadyView, queued_places, woken, woken_all, put_back, TakesNext}
 use Rattle.daide_driver.specs.Hub.{IsBegun, IsTurned}
-use Rattle.daide_driver.specs.declared.place.Place.{Place}
-use Rattle.daide_driver.specs.declared.place.Place.TheVariants.{Free, Kept, Held}
-use Rattle.daide_driver.specs.Slab.{SlabView, IsAt, with_place, all_free, is_free, OpensAt, ChangesAt}
+use Rattle.daide_driver.specs.declared.place.SlabPlace.{SlabPlace}
+use Rattle.daide_driver.specs.declared.place.SlabPlace.TheVariants.{Free, Kept, Held}
+use Rattle.daide_driver.specs.Slab.{SlabView, IsAt, with_place, all_free, is_free_place, OpensAt, ChangesAt}
 use Rattle.daide_settings.specs.declared.settings.Settings.{Settings}
 use Rattle.daide_event_loop.specs.declared.serving.ServeFault.{ServeFault}
 use Rattle.daide_event_loop.specs.declared.serving.ServeFault.TheVariants as Faults
@@ -67,7 +67,7 @@ closed counters = record counters { sessions = counters.accepted }
 
 -- all bots were served, and no place is used
 abbrev pub is_done : {P : Type 0} → ServiceView P → Bool
-is_done run = have_all_come run.counters && list_all is_free run.slab.places
+is_done run = have_all_come run.counters && list_all is_free_place run.slab.places
 
 -- no more bots are accepted than the limit in all, and each place may be in the queue
 pub record IsRunSound {P : Type 0} (run : ServiceView P) : Type 0 where
@@ -81,13 +81,13 @@ abbrev pub heeding : Orders → AdmissionCounters → AdmissionCounters
 heeding orders counters = if orders.stops_accepting then closed counters else counters
 
 -- the status of each session is shown, in order of place
-abbrev pub shows : {P : Type 0} → List (Place (SessionView × QuotaPortsView P)) → List (SystemCall P)
+abbrev pub shows : {P : Type 0} → List (SlabPlace (SessionView × QuotaPortsView P)) → List (SystemCall P)
 shows [] = []
 shows (Free ∷ places) = shows places
 shows (Kept ∷ places) = shows places
 shows (Held held ∷ places) = Shows held.1.ports (status_of held.0 held.1.bytes) ∷ shows places
 
-abbrev pub shows_where : {P : Type 0} → Bool → List (Place (SessionView × QuotaPortsView P)) → List (SystemCall P)
+abbrev pub shows_where : {P : Type 0} → Bool → List (SlabPlace (SessionView × QuotaPortsView P)) → List (SystemCall P)
 shows_where true places = shows places
 shows_where false places = []
 
@@ -95,7 +95,7 @@ shows_where false places = []
 -- the orders require it
 abbrev pub opening : {P : Type 0} → ServiceView P → List ℕ → Orders → List (SystemCall P)
 opening run woken orders =
-    Polls (length (listed run.ready) == 0) woken orders ∷ shows_where orders.shows_sessions run.slab.places
+    Polls (length (queued_places run.ready) == 0) woken orders ∷ shows_where orders.shows_sessions run.slab.places
 
 -- a run after its poll woke these places and returned these orders
 abbrev pub polled : {P : Type 0} → ServiceView P → List ℕ → Orders → ServiceView P
@@ -117,7 +117,7 @@ pub record TakesTurn {P : Type 0} (transition : P → PortCall → P → Type 0)
   pub runs : ChangesAt (IsTurned (Meters transition)) begun place new
 
 -- whether the last turn of the session at a place made progress; not if there is none
-abbrev pub has_moved_in : {P : Type 0} → Option (Place (SessionView × QuotaPortsView P)) → Bool
+abbrev pub has_moved_in : {P : Type 0} → Option (SlabPlace (SessionView × QuotaPortsView P)) → Bool
 has_moved_in None = false
 has_moved_in (Some Free) = false
 has_moved_in (Some Kept) = false
@@ -218,7 +218,7 @@ Meets transition Pending old place answers turns new = (answers ≡ []) × (turn
 
 -- The visit of a place with this. One that is free stays as it is: something may be reported of it after its session ended.
 -- A visit counts as one turn at least, so that a round ends.
-abbrev pub VisitsPlaceWith : {P : Type 0} → (P → PortCall → P → Type 0) → Option (Place (SessionView × QuotaPortsView P)) →
+abbrev pub VisitsPlaceWith : {P : Type 0} → (P → PortCall → P → Type 0) → Option (SlabPlace (SessionView × QuotaPortsView P)) →
     ServiceView P → ℕ → List (SystemCall P) → ℕ → ServiceView P → Type 0
 VisitsPlaceWith transition None old place answers turns new = (answers ≡ []) × (turns ≡ 1) × (new ≡ old)
 VisitsPlaceWith transition (Some Free) old place answers turns new = (answers ≡ []) × (turns ≡ 1) × (new ≡ old)
@@ -248,7 +248,7 @@ Visits {P} transition before (place ∷ places) old answers after new =
 
 -- one more bot may be accepted: not all have come, and a place is free
 abbrev pub may_accept : {P : Type 0} → ServiceView P → Bool
-may_accept run = nat_lt run.counters.accepted run.counters.sessions && list_any is_free run.slab.places
+may_accept run = nat_lt run.counters.accepted run.counters.sessions && list_any is_free_place run.slab.places
 
 -- A bot that came has its place, which is visited, since its connect may have failed already.
 abbrev pub come : {P : Type 0} → Bool → ServiceView P → ℕ → ServiceView P
@@ -283,7 +283,7 @@ pub record Round {P : Type 0} (transition : P → PortCall → P → Type 0) (ol
   pub turns : ℕ
   pub mid : ServiceView P
   pub takes : Visits transition 0 visited (polled old woken orders) visits turns mid
-  pub enough : (most_in_round < turns + quantum) ⊎ (listed mid.ready ≡ [])
+  pub enough : (most_in_round < turns + quantum) ⊎ (queued_places mid.ready ≡ [])
   pub admits : Admits mid admission new
   pub sound : IsRunSound new
   pub asked : answers ≡ opening old woken orders ++ visits ++ admission
@@ -317,13 +317,10 @@ Serves {P} transition settings answers =
 
 -- ---- a run that is broken off
 
--- A round whose new session was refused its memory. It began as any round, and some places were visited. At the next place
--- a connect was under way and completed, and then the round ends. The ports are dropped. `Refuses` is the allocator's
--- relation of that name.
-pub record BreaksOff {P : Type 0} (Refuses : ℕ → Type 0) (transition : P → PortCall → P → Type 0) (old : ServiceView P)
+-- Visits of places, and at the next place a session was refused its memory: a connect was under way and completed. The ports
+-- are dropped. `Refuses` is the allocator's relation of that name.
+pub record BreaksVisits {P : Type 0} (Refuses : ℕ → Type 0) (transition : P → PortCall → P → Type 0) (old : ServiceView P)
     (answers : List (SystemCall P)) (new : ServiceView P) : Type 0 where
-  pub orders : Orders
-  pub woken : List ℕ
   pub visited : List ℕ
   pub visits : List (SystemCall P)
   pub turns : ℕ
@@ -331,13 +328,21 @@ pub record BreaksOff {P : Type 0} (Refuses : ℕ → Type 0) (transition : P →
   pub ready : ReadyView
   pub place : ℕ
   pub ports : P
-  pub takes : Visits transition 0 visited (polled old woken orders) visits turns mid
+  pub takes : Visits transition 0 visited old visits turns mid
+  pub room : turns + quantum ≤ most_in_round
   pub next : TakesNext (nat_le (turns + quantum + left_to_moving) most_in_round) mid.ready place ready
   pub under_way : IsAt mid.slab place Kept
-  pub asked : answers ≡ opening old woken orders ++ visits ++ Connects place (Ready ports) ∷ []
+  pub asked : answers ≡ visits ++ Connects place (Ready ports) ∷ []
   -- the memory of a body of the longest length
   pub refused : Refuses old.slab.limits.cap
   pub leaves : new ≡ record mid { ready = ready }
+
+-- A round that began as any round, and was broken off in its visits.
+abbrev pub BreaksOff : {P : Type 0} → (ℕ → Type 0) → (P → PortCall → P → Type 0) → ServiceView P → List (SystemCall P) →
+    ServiceView P → Type 0
+BreaksOff {P} Refuses transition old answers new = (woken : List ℕ) × (orders : Orders) × (visits : List (SystemCall P))
+    × (answers ≡ opening old woken orders ++ visits)
+    × BreaksVisits Refuses transition (polled old woken orders) visits new
 
 -- rounds from the opening, and a broken-off round of a run that is not done
 pub record RunsOut {P : Type 0} (Refuses : ℕ → Type 0) (transition : P → PortCall → P → Type 0) (settings : Settings)

@@ -12,8 +12,8 @@ use Rattle.daide_io.specs.Ports.{PortCall, TurnBegins, Clock, Pulled, Offered, E
 use Rattle.daide_io.specs.ReadyQueue.{is_queued}
 use Rattle.daide_io.specs.declared.system.Connect.TheVariants.{Pending}
 use Rattle.daide_io.specs.System.{SystemCall, Connects, Rests, last_about}
-use Rattle.daide_driver.specs.declared.place.Place.{Place}
-use Rattle.daide_driver.specs.declared.place.Place.TheVariants.{Free, Kept, Held}
+use Rattle.daide_driver.specs.declared.place.SlabPlace.{SlabPlace}
+use Rattle.daide_driver.specs.declared.place.SlabPlace.TheVariants.{Free, Kept, Held}
 use Rattle.daide_driver.specs.Turn.{Turn, most_pulled}
 use Rattle.daide_settings.specs.declared.settings.Settings.{Settings}
 use Rattle.daide_event_loop.specs.QuotaPorts.{QuotaPortsView}
@@ -69,7 +69,7 @@ pub record IsIdleSession {P : Type 0} (transition : P → PortCall → P → Typ
 -- What is at a place rests after these calls of a run. Of a session, the last turn made no progress. Of a connect, the
 -- system had no result. The last call about the place said so: no poll has woken it since, and no call was made for it.
 abbrev pub IsAtRest : {P : Type 0} → (P → PortCall → P → Type 0) → List (SystemCall P) → ℕ →
-    Place (SessionView × QuotaPortsView P) → Type 0
+    SlabPlace (SessionView × QuotaPortsView P) → Type 0
 IsAtRest transition calls place Free = Unit {0}
 IsAtRest transition calls place Kept = last_about place None calls ≡ Some (Connects place Pending)
 IsAtRest transition calls place (Held held) = IsIdleSession transition held

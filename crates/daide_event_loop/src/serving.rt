@@ -5,22 +5,16 @@
 //! A session that is not in the queue is at rest. It uses no socket. The system is a parameter, so that tests can drive
 //! whole runs in memory.
 
-ghost use Rattle.std.specs.Prelude.{◌≡◌, ℕ, ◌+◌, ◌++◌, ◌<◌, ◌≤◌, ◌==◌, ◌||◌, nat_le, not, if◌then◌else◌, true, false, List, [], ◌∷◌, length, Some};
-ghost use Rattle.std.specs.Prelude.{OnOk, OnErr, IfOk, IfErr, IfSome, Option, slice_get};
-ghost use Rattle.daide_io.specs.System.{SystemCall, Connects, TransitsBy};
-ghost use Rattle.daide_event_loop.specs.Serving.{shows, shows_where};
-ghost use Rattle.daide_event_loop.specs.Serving.{IsWithinQuotas, Admits, FinishesConnect, IsDueBy, TakesTurn, TakesTurns, VisitsPlace, most_turns};
-ghost use Rattle.daide_event_loop.specs.Serving.{RemovesClosed, parting};
-ghost use Rattle.daide_event_loop.specs.Serving.{is_reported, cause_by, end_by};
-ghost use Rattle.daide_event_loop.specs.Serving.{watch_after, wait_where, any_progress, Round, is_done, initial_service};
-ghost use Rattle.daide_event_loop.specs.Served.{IsWholeRun};
-ghost use Rattle.daide_event_loop.specs.QuotaPorts.{QuotaPortsView};
-ghost use Rattle.daide_driver.specs.Hub.{Removes, IsReportedOf};
+ghost use Rattle.std.specs.Prelude.{◌≡◌, ℕ, ◌+◌, ◌<◌, ◌⊎◌, true, false, List, [], ◌∷◌, length, Ok, Some, OnOk, OnErr, IfOk, IfErr, slice_get};
 ghost use Rattle.daide_protocol.specs.Wires.{is_closed};
-ghost use Rattle.daide_protocol.specs.declared.ending.Ending.{Ending};
-ghost use Rattle.daide_protocol.specs.declared.account.Account.{Account};
-ghost use Rattle.daide_io.specs.declared.fault_field.FaultField.{FaultField};
-ghost use Rattle.daide_event_loop.specs.Serving.{IsServeCause, BreaksOff, GivesUp, arrived};
+ghost use Rattle.daide_io.specs.ReadyQueue.{queued_places};
+ghost use Rattle.daide_io.specs.System.{SystemCall, Connects, TransitsBy};
+ghost use Rattle.daide_driver.specs.declared.place.SlabPlace.TheVariants.{Kept};
+ghost use Rattle.daide_driver.specs.Slab.{IsAt, OpensAt, is_at, is_held};
+ghost use Rattle.daide_event_loop.specs.Serving.{quantum, most_in_round, shows_where, parting, is_reported, cause_by, end_by, fresh};
+ghost use Rattle.daide_event_loop.specs.Serving.{TakesTurns, VisitsPlaceWith, Visits, Admits, Round, BreaksVisits, BreaksOff};
+ghost use Rattle.daide_event_loop.specs.Serving.{is_done, initial_service, IsServeCause, GivesUp};
+ghost use Rattle.daide_event_loop.specs.Served.{IsWholeRun};
 
 use crate::admission_counters::AdmissionCounters;
 use crate::quota_ports::QuotaPorts;
@@ -70,13 +64,13 @@ pub struct Service<P: Ports, A: Allocator = Global> {
 }
 
 impl<P: Ports, A: Allocator> Model for Service<P, A> {
-    ghost use Rattle.daide_event_loop.specs.Serving.{ServiceView, IsWithinQuotas};
+    ghost use Rattle.daide_event_loop.specs.Serving.{ServiceView, IsRunSound};
 
     ghost Value = { ServiceView P };
 
     ghost view = { λ s. record { slab = s.slab; counters = s.counters; ready = s.ready } };
 
-    ghost invariant = { λ s. IsWithinQuotas s.counters };
+    ghost invariant = { λ s. IsRunSound (record { slab = s.slab; counters = s.counters; ready = s.ready }) };
 }
 
 /// Shows the operator the status of each session, in order of place, if the orders require it.
@@ -85,7 +79,7 @@ fn show_sessions<P: Ports, A: Allocator + Copy, S: System<P>>(
     slab: &Slab<QuotaPorts<P>, A>,
     system: &mut S,
 )
-    ensures { TransitsBy S.transition system.old (shows_where orders.shows_sessions hub.now.places) system.new }
+    ensures { TransitsBy S.transition system.old (shows_where orders.shows_sessions slab.now.places) system.new }
 {
     if !orders.shows_sessions {
         return;
@@ -124,7 +118,7 @@ fn cause_of(told: Option<Ending>, ending: Ending) -> Cause
 /// Retires the ports of the session that was at a place, with its end. Before that, reports spent turns if the quota is
 /// exceeded.
 fn part_with<P: Ports, S: System<P>>(place: usize, removed: Removed<QuotaPorts<P>>, system: &mut S)
-    ensures { TransitsBy S.transition system.old (parting removed.ports
+    ensures { TransitsBy S.transition system.old (parting place removed.ports
         (end_by removed.ports.first_synthetic_end (Some removed.ending) removed.account removed.fault_field)) system.new }
 {
     let Removed {
@@ -172,7 +166,10 @@ impl<P: Ports, A: Memory + Copy> Service<P, A> {
 
     /// Accepts a bot if there is a place for it and the limit is not reached. Its place is visited, since its connect may
     /// have failed already.
-    fn admit<S: System<P>>(&mut self, system: &mut S) {
+    fn admit<S: System<P>>(&mut self, system: &mut S)
+        ensures { (answers : List (SystemCall P)) × TransitsBy S.transition system.old answers system.new
+            × Admits self.old answers self.new }
+    {
         if self.counters.have_all_come() {
             return;
         }
@@ -191,7 +188,19 @@ impl<P: Ports, A: Memory + Copy> Service<P, A> {
     ///
     /// Fails with `Memory` if the allocator refused a body.
     #[inline(never)]
-    fn meet<S: System<P>>(&mut self, place: usize, system: &mut S) -> Result<bool, ServeFault> {
+    fn meet<S: System<P>>(&mut self, place: usize, system: &mut S) -> Result<bool, ServeFault>
+        requires { is_at is_held self.old.slab.places place ≡ false }
+        ensures opened { result ≡ Ok true → (ports : P) × S.transition system.old (Connects place (Connect.Ready ports)) system.new
+            × IsAt self.old.slab place Kept
+            × OpensAt self.old.slab place (fresh ports self.old.counters.turns) self.new.slab
+            × (self.new ≡ record self.old { slab = self.new.slab }) }
+        ensures none { result ≡ Ok false → (answers : List (SystemCall P)) × TransitsBy S.transition system.old answers system.new
+            × VisitsPlaceWith P.transition (slice_get self.old.slab.places place) self.old place answers 1 self.new }
+        ensures refused { OnErr result (A.Refuses self.old.slab.limits.cap × IsAt self.old.slab place Kept
+            × (self.new ≡ self.old)
+            × (ports : P) × S.transition system.old (Connects place (Connect.Ready ports)) system.new) }
+        ensures fault { IfErr result (λ fault. fault ≡ ServeFault.Memory) }
+    {
         // Something may be reported of a place after its session ended.
         if !self.slab.is_kept(place) {
             return Ok(false);
@@ -216,7 +225,13 @@ impl<P: Ports, A: Memory + Copy> Service<P, A> {
     /// Makes a turn of the session at a place, and then one more after each that made progress, at most `QUANTUM`. Returns
     /// how many.
     #[inline(always)]
-    fn take_turns<S: System<P>>(&mut self, place: usize, system: &mut S) -> usize {
+    fn take_turns<S: System<P>>(&mut self, place: usize, system: &mut S) -> usize
+        requires { is_at is_held self.old.slab.places place ≡ true }
+        ensures turns { (answers : List (SystemCall P)) × TransitsBy S.transition system.old answers system.new
+            × TakesTurns P.transition true quantum self.old.slab place answers result self.new.slab }
+        ensures held { is_at is_held self.new.slab.places place ≡ true }
+        ensures same { self.new ≡ record self.old { slab = self.new.slab } }
+    {
         for turn in 1..=QUANTUM {
             self.slab.ports_mut(place).begin_turn(place, system);
             self.slab.turn(place);
@@ -230,7 +245,15 @@ impl<P: Ports, A: Memory + Copy> Service<P, A> {
     /// Visits a place: its session has its turns, and then is retired if it is closed, or rests, or goes to the end of the
     /// queue. Returns the number of turns; one at least, so that a round ends.
     #[inline(always)]
-    fn visit<S: System<P>>(&mut self, place: usize, system: &mut S) -> Result<usize, ServeFault> {
+    fn visit<S: System<P>>(&mut self, place: usize, system: &mut S) -> Result<usize, ServeFault>
+        ensures visits { IfOk result (λ turns. (answers : List (SystemCall P))
+            × TransitsBy S.transition system.old answers system.new
+            × VisitsPlaceWith P.transition (slice_get self.old.slab.places place) self.old place answers turns self.new) }
+        ensures refused { OnErr result (A.Refuses self.old.slab.limits.cap × IsAt self.old.slab place Kept
+            × (self.new ≡ self.old)
+            × (ports : P) × S.transition system.old (Connects place (Connect.Ready ports)) system.new) }
+        ensures fault { IfErr result (λ fault. fault ≡ ServeFault.Memory) }
+    {
         if !self.slab.has(place) && !self.meet(place, system)? {
             return Ok(1);
         }
@@ -246,7 +269,16 @@ impl<P: Ports, A: Memory + Copy> Service<P, A> {
 
     /// Visits places of the queue until it is empty, or until another visit might exceed `ROUND` turns. Those that were at
     /// rest come first, but the last `LEFT_TO_MOVING` turns are for one of the others, if there is one.
-    fn visit_ready<S: System<P>>(&mut self, system: &mut S) -> Result<(), ServeFault> {
+    fn visit_ready<S: System<P>>(&mut self, system: &mut S) -> Result<(), ServeFault>
+        ensures visits { OnOk result ((visited : List ℕ) × (answers : List (SystemCall P)) × (turns : ℕ)
+            × TransitsBy S.transition system.old answers system.new
+            × Visits P.transition 0 visited self.old answers turns self.new
+            × ((most_in_round < turns + quantum) ⊎ (queued_places self.new.ready ≡ []))) }
+        ensures broken_off { OnErr result ((answers : List (SystemCall P))
+            × TransitsBy S.transition system.old answers system.new
+            × BreaksVisits A.Refuses P.transition self.old answers self.new) }
+        ensures fault { IfErr result (λ fault. fault ≡ ServeFault.Memory) }
+    {
         let mut turns = 0;
         while turns + QUANTUM <= ROUND {
             let fresh_first = turns + QUANTUM + LEFT_TO_MOVING <= ROUND;
@@ -265,7 +297,8 @@ impl<P: Ports, A: Memory + Copy> Service<P, A> {
             × TransitsBy S.transition system.old answers system.new × Round P.transition self.old answers self.new) }
         ensures refused { IfErr result (λ fault. fault ≡ ServeFault.Memory) }
         ensures broken_off { OnErr result ((answers : List (SystemCall P))
-            × TransitsBy S.transition system.old answers system.new × BreaksOff A.Refuses self.old answers self.new) }
+            × TransitsBy S.transition system.old answers system.new
+            × BreaksOff A.Refuses P.transition self.old answers self.new) }
     {
         let orders = system.poll(self.ready.is_empty(), &mut self.ready);
         self.counters.heed(orders);
