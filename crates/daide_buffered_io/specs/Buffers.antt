@@ -19,6 +19,10 @@ pub record Buffer (S : Type 0) : Type 0 where
   pub write_buffer : List ℕ
   pub has_failed : Bool
 
+-- the same buffers over another stream
+abbrev pub with_stream : {S : Type 0} → Buffer S → S → Buffer S
+with_stream buffer stream = record buffer { stream = stream }
+
 -- A buffered stream returned the bytes `out` and accepted the bytes `over`, in FIFO order: the old read buffer and the
 -- bytes read are `out` and the new read buffer; the old write buffer and `over` are the bytes written and the new write
 -- buffer.

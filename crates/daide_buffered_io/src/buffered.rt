@@ -7,7 +7,8 @@
 
 ghost use Rattle.std.specs.Prelude.{◌≡◌, ◌<◌, ◌≤◌, ◌++◌, [], ◌∷◌, true, false, min, length, take, IfSome};
 ghost use Rattle.daide_io.specs.Ports.{AppendsTo, IsPullWithin, IsPutWithin, pulled_len};
-ghost use Rattle.daide_buffered_io.specs.Buffers.{Passes, ReadsNothing, WritesNothing, IsBufferedPull, IsFlushed, IsWriteOnly, buffered_bytes};
+ghost use Rattle.daide_buffered_io.specs.Buffers.{Passes, ReadsNothing, WritesNothing, IsBufferedPull, IsFlushed, IsWriteOnly, buffered_bytes, with_stream};
+ghost use Rattle.std.specs.Borrow.{Lends, sem};
 ghost use Rattle.daide_buffered_io.specs.Calls.{IsStopped, OnlyPuts};
 ghost use Rattle.daide_io.specs.Streams.{WritingEnded};
 ghost use Rattle.daide_buffered_io.specs.Taking.{bytes_taken};
@@ -60,6 +61,8 @@ fn kept(held: IoBuffer, pool: &Pool) -> Option<IoBuffer>
 }
 
 impl<S: Drop> Buffered<S> {
+    ghost use Rattle.daide_buffered_io.specs.contracts.buffered.Buffered.{the_row};
+
     /// Wraps a stream, with empty buffers.
     pub fn new(stream: S) -> Buffered<S>
         ensures { result ≡ record { stream = stream; read_buffer = []; write_buffer = []; has_failed = false } }
@@ -79,8 +82,12 @@ impl<S: Drop> Buffered<S> {
         &self.stream
     }
 
-    /// Lends the stream itself, to have it followed under another key.
-    pub fn stream_mut(&mut self) -> &mut S {
+    /// Lends the stream itself, to have it followed under another key. When the loan ends, the stream is as it was left, and
+    /// both buffers are unchanged.
+    pub fn stream_mut(&mut self) -> &mut S
+        ensures* writes_back { sem 𝓛 (Lends (the_row S.row) S.row self.entry result (with_stream self.old)) }
+        ensures value { result.now ≡ self.old.stream }
+    {
         &mut self.stream
     }
 

@@ -5,6 +5,7 @@ pub mod TurnLemmas
 pub mod Standing
 pub mod RelayLemmas
 pub mod HubLemmas
+pub mod SlabLemmas
 mod BoundFacts
 mod LawFacts
 pub mod ApartLemmas

@@ -14,15 +14,12 @@ ghost use Rattle.daide_driver.specs.Hub.{HubView, IsHubCause, IsAddCause, AddsSe
 ghost use Rattle.std.specs.Borrow.{Lends, sem};
 ghost use Rattle.daide_driver.specs.Hub.{IsReportedOf, with_ports, weight_at, session_bound};
 
-use crate::status::fault_field;
-use crate::turn_io::{BUFFER, turn_through};
+use crate::slot::{Removed, SessionSlot};
+use crate::turn_io::BUFFER;
 use daide_frame::memory::Memory;
-use daide_io::fault_field::FaultField;
 use daide_io::ports::Ports;
-use daide_protocol::account::Account;
 use daide_protocol::bounds::MAX_SESSIONS;
 use daide_protocol::config::{Config, ConfigError, SessionLimits};
-use daide_protocol::ending::Ending;
 use daide_session::session::Session;
 use daide_words::words::Words;
 use std::alloc::{AllocError, Allocator, Global};
@@ -46,25 +43,6 @@ pub enum AddFault {
     Full,
     /// The allocator refused a body.
     Memory,
-}
-
-/// A removed session: its ports, its account, its ending and its fault.
-#[derive(Drop)]
-pub struct Removed<P: Ports> {
-    pub ports: P,
-    /// The counts by side, each modulo 2^64, and the level that was last in force.
-    pub account: Account,
-    /// The event that ended the session.
-    pub ending: Ending,
-    /// The field that its fault is about, if a fault ended it.
-    pub fault_field: Option<FaultField>,
-}
-
-/// A session and its ports.
-#[derive(Drop)]
-struct SessionSlot<P: Ports, A: Allocator> {
-    session: Session<A>,
-    ports: P,
 }
 
 /// Sessions in one loop. The abstract value has the limits of the sessions, their maximum number, and at each place the
@@ -181,8 +159,7 @@ impl<P: Ports, A: Allocator + Copy> Hub<P, A> {
         requires { i < length self.old.places }
         ensures { Changes (IsTurned P.transition) self.old i self.new }
     {
-        let place = &mut self.places[i];
-        turn_through(&mut place.session, &mut place.ports, &mut self.buffer);
+        self.places[i].turn(&mut self.buffer);
     }
 
     /// Returns the session at a place.
@@ -255,12 +232,7 @@ impl<P: Ports, A: Allocator + Copy> Hub<P, A> {
         if !self.places[i].session.is_closed() {
             return None;
         }
-        let SessionSlot { session, ports } = self.places.remove(i);
-        Some(Removed {
-            ports,
-            account: session.account(),
-            ending: session.ending().unwrap(),
-            fault_field: fault_field(&session),
-        })
+        let slot = self.places.remove(i);
+        Some(slot.into_removed())
     }
 }

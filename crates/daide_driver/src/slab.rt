@@ -4,46 +4,54 @@
 //! name in a run. All places are reserved at once, so a new session allocates only its two bodies.
 
 ghost use Rattle.std.specs.Prelude.{◌≡◌, IfOk, IfErr, IfSome, IfNone, OnOk, OnErr, true, length};
+ghost use Rattle.std.specs.List.{list_all};
 ghost use Rattle.daide_protocol.specs.Config.{limits_with};
 ghost use Rattle.daide_protocol.specs.Wires.{is_closed};
 ghost use Rattle.daide_words.specs.Words.{words_of};
 ghost use Rattle.daide_driver.specs.Hub.{IsTurned, IsReportedOf};
-ghost use Rattle.daide_driver.specs.Slab.{SlabView, Free, Kept, all_free, IsAt, IsSlabFull, is_free, is_kept, is_held, IfHeld};
-ghost use Rattle.daide_driver.specs.Slab.{with_place, with_held_ports, OpensAt, ChangesAt};
+ghost use Rattle.daide_driver.specs.Slab.{SlabView, all_free, is_free_place, is_kept, is_held, is_at, IfHeldAt, IsAt, IsNoneFree, IsNextFree};
+ghost use Rattle.daide_driver.specs.Slab.{with_place, with_ports_at_place, OpensAt, ChangesAt};
 ghost use Rattle.std.specs.Borrow.{Lends, sem};
 
-use crate::hub::Removed;
-use crate::status::fault_field;
-use crate::turn_io::{BUFFER, turn_through};
+use crate::place::SlabPlace;
+use crate::slot::{Removed, SessionSlot};
+use crate::turn_io::BUFFER;
 use daide_frame::memory::Memory;
 use daide_io::ports::Ports;
 use daide_protocol::config::SessionLimits;
 use daide_session::session::Session;
 use daide_words::words::Words;
 use std::alloc::{AllocError, Allocator, Global};
+use std::marker::Model;
 use std::mem;
 
-/// A place of a slab.
-#[derive(Drop)]
-enum Place<P: Ports, A: Allocator> {
-    /// It has no session.
-    Free,
-    /// It is kept for a session that is to come.
-    Kept,
-    /// It has this session with these ports.
-    Held { session: Session<A>, ports: P },
-}
-
-/// Sessions at places. All turns share one buffer, so that no turn has to clear a new one.
+/// Sessions at places. The abstract value has the limits of the sessions, and at each place the value of a session and its
+/// ports, if it has one. All turns share one buffer, so that no turn has to clear a new one.
 #[derive(Drop)]
 pub struct Slab<P: Ports, A: Allocator = Global> {
     alloc: A,
     limits: SessionLimits,
     words: Words,
-    places: Vec<Place<P, A>, A>,
+    places: Vec<SlabPlace<SessionSlot<P, A>>, A>,
     /// A free place; the number of places if none is free.
     next: usize,
     buffer: [u8; BUFFER],
+}
+
+impl<P: Ports, A: Allocator> Model for Slab<P, A> {
+    ghost use Rattle.std.specs.Prelude.{map};
+    ghost use Rattle.daide_words.specs.Words.{words_of};
+    ghost use Rattle.daide_protocol.specs.Config.{limits_with};
+    ghost use Rattle.daide_driver.specs.Slab.{SlabView, held_as, IsNextFree};
+
+    ghost Value = { SlabView P };
+
+    ghost view = { λ s. record {
+      limits = limits_with s.limits.config (words_of s.words);
+      places = map (held_as (λ slot. (slot.session, slot.ports))) s.places.items;
+    } };
+
+    ghost invariant = { λ s. IsNextFree s.places.items s.next };
 }
 
 impl<P: Ports, A: Memory + Copy> Slab<P, A> {
@@ -60,7 +68,7 @@ impl<P: Ports, A: Memory + Copy> Slab<P, A> {
     {
         let mut places = alloc.with_capacity(max)?;
         for _place in 0..max {
-            places.push_reserved(Place::Free);
+            places.push_reserved(SlabPlace::Free);
         }
         Ok(Slab {
             alloc,
@@ -75,7 +83,7 @@ impl<P: Ports, A: Memory + Copy> Slab<P, A> {
     /// Begins a session with these ports at a place that was kept. If the allocator refuses a body, nothing changes and the
     /// ports come back.
     pub fn open(&mut self, place: usize, ports: P) -> Result<(), P>
-        requires { IsAt self.old place Kept }
+        requires { IsAt self.old place SlabPlace.Kept }
         ensures opens { OnOk result (OpensAt self.old place ports self.new) }
         ensures refused { OnErr result (A.Refuses self.old.limits.cap) }
         ensures unchanged { OnErr result (self.new ≡ self.old) }
@@ -84,15 +92,17 @@ impl<P: Ports, A: Memory + Copy> Slab<P, A> {
         let Ok(session) = Session::with_limits(self.alloc, self.limits, self.words) else {
             return Err(ports);
         };
-        self.places[place] = Place::Held { session, ports };
+        self.places[place] = SlabPlace::Held(SessionSlot { session, ports });
         Ok(())
     }
 }
 
 /// Returns the first free place of these; their number if none is free.
-fn first_free<P: Ports, A: Allocator>(places: &[Place<P, A>]) -> usize {
+fn first_free<T>(places: &[SlabPlace<T>]) -> usize
+    ensures { IsNextFree places.now result }
+{
     for place in 0..places.len() {
-        if matches!(places[place], Place::Free) {
+        if places[place].is_free() {
             return place;
         }
     }
@@ -100,6 +110,8 @@ fn first_free<P: Ports, A: Allocator>(places: &[Place<P, A>]) -> usize {
 }
 
 impl<P: Ports, A: Allocator + Copy> Slab<P, A> {
+    ghost use Rattle.daide_driver.specs.contracts.slab.Slab.{the_row};
+
     /// Returns the number of places.
     pub fn len(&self) -> usize
         ensures { result ≡ length self.now.places }
@@ -109,8 +121,8 @@ impl<P: Ports, A: Allocator + Copy> Slab<P, A> {
 
     /// Returns a free place; `None` if there is none.
     pub fn next_free(&self) -> Option<usize>
-        ensures free { IfSome result (λ place. IsAt self.now place Free) }
-        ensures full { IfNone result (IsSlabFull self.now) }
+        ensures free { IfSome result (λ place. IsAt self.now place SlabPlace.Free) }
+        ensures full { IfNone result (IsNoneFree self.now.places) }
     {
         if self.next < self.places.len() {
             Some(self.next)
@@ -121,66 +133,66 @@ impl<P: Ports, A: Allocator + Copy> Slab<P, A> {
 
     /// Returns whether every place is free.
     pub fn is_empty(&self) -> bool
-        ensures { result ≡ list_all is_free self.now.places }
+        ensures { result ≡ list_all is_free_place self.now.places }
     {
-        self.places.iter().all(|place| matches!(place, Place::Free))
+        self.places.iter().all(|place| place.is_free())
     }
 
     /// Returns whether a place is kept for a session that is to come.
     pub fn is_kept(&self, place: usize) -> bool
-        ensures { result ≡ is_kept (slice_get self.now.places place) }
+        ensures { result ≡ is_at is_kept self.now.places place }
     {
-        matches!(self.places.get(place), Some(Place::Kept))
+        match self.places.get(place) {
+            Some(found) => found.is_kept(),
+            None => false,
+        }
     }
 
     /// Returns whether there is a session at a place.
     #[inline(always)]
     pub fn has(&self, place: usize) -> bool
-        ensures { result ≡ is_held (slice_get self.now.places place) }
+        ensures { result ≡ is_at is_held self.now.places place }
     {
-        matches!(self.places.get(place), Some(Place::Held { .. }))
+        match self.places.get(place) {
+            Some(found) => found.is_held(),
+            None => false,
+        }
     }
 
     /// Keeps a free place for a session that is to come.
     pub fn keep(&mut self, place: usize)
-        requires { IsAt self.old place Free }
-        ensures { self.new ≡ with_place self.old place Kept }
+        requires { IsAt self.old place SlabPlace.Free }
+        ensures { self.new ≡ with_place self.old place SlabPlace.Kept }
     {
-        self.places[place] = Place::Kept;
+        self.places[place] = SlabPlace::Kept;
         self.next = first_free(&self.places);
     }
 
     /// Frees a place that was kept for a session that does not come.
     pub fn give_up(&mut self, place: usize)
-        requires { IsAt self.old place Kept }
-        ensures { self.new ≡ with_place self.old place Free }
+        requires { IsAt self.old place SlabPlace.Kept }
+        ensures { self.new ≡ with_place self.old place SlabPlace.Free }
     {
-        self.places[place] = Place::Free;
+        self.places[place] = SlabPlace::Free;
         self.next = place;
     }
 
     /// Returns the session at a place.
     #[inline(always)]
     pub fn session(&self, place: usize) -> &Session<A>
-        requires { is_held (slice_get self.now.places place) ≡ true }
-        ensures { IfHeld (slice_get self.now.places place) (λ session ports. result.now ≡ session) }
+        requires { is_at is_held self.now.places place ≡ true }
+        ensures { IfHeldAt self.now.places place (λ held. result.now ≡ held.0) }
     {
-        match &self.places[place] {
-            Place::Held { session, .. } => session,
-            _ => unreachable!(),
-        }
+        &self.places[place].held().session
     }
 
     /// Returns the ports of the session at a place.
     #[inline(always)]
     pub fn ports(&self, place: usize) -> &P
-        requires { is_held (slice_get self.now.places place) ≡ true }
-        ensures { IfHeld (slice_get self.now.places place) (λ session ports. result.now ≡ ports) }
+        requires { is_at is_held self.now.places place ≡ true }
+        ensures { IfHeldAt self.now.places place (λ held. result.now ≡ held.1) }
     {
-        match &self.places[place] {
-            Place::Held { ports, .. } => ports,
-            _ => unreachable!(),
-        }
+        &self.places[place].held().ports
     }
 
     /// Lends the ports of the session at a place, to begin a turn with them.
@@ -189,27 +201,22 @@ impl<P: Ports, A: Allocator + Copy> Slab<P, A> {
     /// the limits are unchanged.
     #[inline(always)]
     pub fn ports_mut(&mut self, place: usize) -> &mut P
-        requires { is_held (slice_get self.old.places place) ≡ true }
+        requires { is_at is_held self.old.places place ≡ true }
         ensures* writes_back { sem 𝓛 (Lends (the_row P.row A.row P.Ports A.Allocator) P.row self.entry result
-            (with_held_ports self.old place)) }
-        ensures value { IfHeld (slice_get self.old.places place) (λ session ports. result.now ≡ ports) }
+            (with_ports_at_place self.old place)) }
+        ensures value { IfHeldAt self.old.places place (λ held. result.now ≡ held.1) }
     {
-        match &mut self.places[place] {
-            Place::Held { ports, .. } => ports,
-            _ => unreachable!(),
-        }
+        let lent = self.places[place].held_mut();
+        &mut lent.ports
     }
 
     /// Makes one turn of the session at a place with its ports, by the clauses of `turn`. Every other place is unchanged.
     #[inline(always)]
     pub fn turn(&mut self, place: usize)
-        requires { is_held (slice_get self.old.places place) ≡ true }
+        requires { is_at is_held self.old.places place ≡ true }
         ensures { ChangesAt (IsTurned P.transition) self.old place self.new }
     {
-        match &mut self.places[place] {
-            Place::Held { session, ports } => turn_through(session, ports, &mut self.buffer),
-            _ => unreachable!(),
-        }
+        self.places[place].held_mut().turn(&mut self.buffer);
     }
 
     /// Takes out the closed session at a place, and frees the place.
@@ -218,21 +225,17 @@ impl<P: Ports, A: Allocator + Copy> Slab<P, A> {
     /// fault is about.
     #[inline(never)]
     pub fn remove(&mut self, place: usize) -> Removed<P>
-        requires closed { IfHeld (slice_get self.old.places place) (λ session ports. is_closed session ≡ true) }
-        requires held { is_held (slice_get self.old.places place) ≡ true }
-        ensures frees { self.new ≡ with_place self.old place Free }
-        ensures reported { IfHeld (slice_get self.old.places place) (λ session ports. (result.ports ≡ ports)
-            × IsReportedOf session result.account result.ending result.fault_field) }
+        requires held { is_at is_held self.old.places place ≡ true }
+        requires closed { IfHeldAt self.old.places place (λ held. is_closed held.0 ≡ true) }
+        ensures frees { self.new ≡ with_place self.old place SlabPlace.Free }
+        ensures ports { IfHeldAt self.old.places place (λ held. result.ports ≡ held.1) }
+        ensures reported { IfHeldAt self.old.places place
+            (λ held. IsReportedOf held.0 result.account result.ending result.fault_field) }
     {
-        let taken = mem::replace(&mut self.places[place], Place::Free);
+        let taken = mem::replace(&mut self.places[place], SlabPlace::Free);
         self.next = place;
         match taken {
-            Place::Held { session, ports } => Removed {
-                ports,
-                account: session.account(),
-                ending: session.ending().unwrap(),
-                fault_field: fault_field(&session),
-            },
+            SlabPlace::Held(slot) => slot.into_removed(),
             _ => unreachable!(),
         }
     }

@@ -1,12 +1,10 @@
 use Rattle.std.proofs.Common.{◌≡◌, sym, ◌∙◌, ap, subst, arith}
-use Rattle.std.specs.Prelude.{false, true, IfSome}
+use Rattle.std.specs.Prelude.{false, true, Some, IfSome}
 use Rattle.daide_words.specs.Words.{words_of}
-use Rattle.daide_protocol.specs.Machine.{is_over}
 use Rattle.daide_protocol.specs.Wires.{SessionView, is_closed}
 use Rattle.daide_protocol.specs.Config.{limits_with}
 use Rattle.daide_driver.specs.Hub.{IsReportedOf}
 use Rattle.daide_driver.proofs.HubLemmas.{place_inside, same_read, place_read, place_removed, all_removed}
-use Rattle.daide_driver.proofs.HubLemmas.{is_there, closed_over}
 use Rattle.daide_driver.proofs.hub.Hub.remove_over.Goals as goal
 
 pub index-requires : goal.index-requires
@@ -16,8 +14,8 @@ index-requires g c =
     c.args.i c.args.self.now c.self.view_is c.requires in
     omega (arith, inside, s.places.ok.0)
 
-pub remove-session-requires : goal.remove-session-requires
-remove-session-requires g c =
+pub remove-slot-requires : goal.remove-slot-requires
+remove-slot-requires g c =
     let s = c.self.inside in
     let inside = place_inside (λ p. (p.session, p.ports)) (limits_with s.limits.config (words_of s.words)) s.max s.places.items c.args.i
     c.args.self.now c.self.view_is c.requires in
@@ -35,14 +33,14 @@ returns-then-not-is_closed-clause-open g c =
 pub invariant_of-self : goal.invariant_of-self
 invariant_of-self g c =
     let s = c.self.inside in
-    let len = c.remove-session.ensures.len in
-    let capacity = c.remove-session.ensures.capacity in
+    let len = c.remove-slot.ensures.len in
+    let capacity = c.remove-slot.ensures.capacity in
     record {
       size = c.self.invariant.size;
       fits = let fits = c.self.invariant.fits in
-          omega (arith, len, fits, s.places.ok.0, c.remove-session.new.self.ok.0);
+          omega (arith, len, fits, s.places.ok.0, c.remove-slot.new.self.ok.0);
       room = let room = c.self.invariant.room in omega (arith, capacity, room);
-      same_limits = rw c.remove-session.ensures.items
+      same_limits = rw c.remove-slot.ensures.items
           (all_removed (λ p. p.session.state.limits ≡ limits_with s.limits.config (words_of s.words)) s.places.items c.args.i
           c.self.invariant.same_limits);
     }
@@ -50,52 +48,39 @@ invariant_of-self g c =
 pub returns-clause-moved_down : goal.returns-clause-moved_down
 returns-clause-moved_down g c =
     let s = c.self.inside in
-    let place = c.remove-session.result in
+    let place = c.remove-slot.result in
     let limits = limits_with s.limits.config (words_of s.words) in
     let inside = place_inside (λ p. (p.session, p.ports)) limits s.max s.places.items c.args.i
     c.args.self.now c.self.view_is c.requires in
     let same = same_read s.places.items c.args.i c.index.result.now place inside c.index.ensures
-    c.remove-session.ensures.value in (
+    c.remove-slot.ensures.value in (
       place.session,
       place_read (λ p. (p.session, p.ports)) limits s.max s.places.items c.args.i place
-          c.args.self.now c.self.view_is c.requires c.remove-session.ensures.value,
+          c.args.self.now c.self.view_is c.requires c.remove-slot.ensures.value
+          ∙ ap (λ ports. Some (place.session, ports)) (sym c.into_removed.ensures.ports),
       ap (λ p. is_closed p.session) (sym same) ∙ sym c.is_closed.ensures ∙ c.if-not-is_closed.false,
-      rw c.remove-session.ensures.items
+      rw c.remove-slot.ensures.items
           (place_removed (λ p. (p.session, p.ports)) limits s.max s.places.items c.args.i
           c.args.self.now c.self.view_is),
     )
 
--- the session is closed, so its ending is known
-pub unwrap-requires : goal.unwrap-requires
-unwrap-requires g c =
+-- the session is closed
+pub into_removed-requires : goal.into_removed-requires
+into_removed-requires g c =
     let s = c.self.inside in
-    let place = c.remove-session.result in
+    let place = c.remove-slot.result in
     let inside = place_inside (λ p. (p.session, p.ports)) (limits_with s.limits.config (words_of s.words)) s.max s.places.items
     c.args.i c.args.self.now c.self.view_is c.requires in
     let same = same_read s.places.items c.args.i c.index.result.now place inside c.index.ensures
-    c.remove-session.ensures.value in
-    let closed : is_closed place.session ≡ true =
-    ap (λ p. is_closed p.session) (sym same) ∙ sym c.is_closed.ensures ∙ c.if-not-is_closed.false in
-    is_there c.ending.result
-    (c.ending.ensures.over ∙ closed_over (is_over place.session.state.phase) _ closed)
-
--- the session is closed, so its fault may be looked up
-pub fault_field-requires : goal.fault_field-requires
-fault_field-requires g c =
-    let s = c.self.inside in
-    let place = c.remove-session.result in
-    let inside = place_inside (λ p. (p.session, p.ports)) (limits_with s.limits.config (words_of s.words)) s.max s.places.items
-    c.args.i c.args.self.now c.self.view_is c.requires in
-    let same = same_read s.places.items c.args.i c.index.result.now place inside c.index.ensures
-    c.remove-session.ensures.value in
+    c.remove-slot.ensures.value in
     ap (λ p. is_closed p.session) (sym same) ∙ sym c.is_closed.ensures ∙ c.if-not-is_closed.false
 
 pub returns-clause-reported : goal.returns-clause-reported
 returns-clause-reported g c =
     let s = c.self.inside in
-    let place = c.remove-session.result in
+    let place = c.remove-slot.result in
     let read = place_read (λ p. (p.session, p.ports)) (limits_with s.limits.config (words_of s.words)) s.max s.places.items
-    c.args.i place c.args.self.now c.self.view_is c.requires c.remove-session.ensures.value in
-    subst (λ found. IfSome found (λ (p : SessionView × g.row.P.Denot). IsReportedOf p.0 c.account.result c.unwrap.result
-    c.fault_field.result))
-    (sym read) (c.account.ensures, sym c.ending.ensures.value ∙ c.unwrap.ensures, c.fault_field.ensures)
+    c.args.i place c.args.self.now c.self.view_is c.requires c.remove-slot.ensures.value in
+    subst (λ found. IfSome found (λ (p : SessionView × g.row.P.Denot). IsReportedOf p.0 c.into_removed.result.account
+    c.into_removed.result.ending c.into_removed.result.fault_field))
+    (sym read) c.into_removed.ensures.reported
