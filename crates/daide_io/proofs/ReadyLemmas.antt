@@ -3,7 +3,7 @@ use Rattle.std.proofs.Common.{◌≡◌, ℕ, zero, suc, ◌+◌, ◌≤◌, ◌
 use Rattle.std.proofs.Common.{refl, ap, sym, ◌∙◌, subst, arith}
 use Rattle.std.specs.Prelude.{if◌then◌else◌, nat_lt, ◌&&◌, not}
 use Rattle.std.proofs.lemmas.Bool.{lt-ltb}
-use Rattle.daide_io.specs.ReadyQueue.{ReadyView, is_same, occurrences_of, one_if, mark_at, is_among, listed, AreMarked, may_join, woken, put_back}
+use Rattle.daide_io.specs.ReadyQueue.{ReadyView, is_same, occurrences_of, one_if, mark_at, is_among, AreMarked, may_join, woken, put_back}
 
 few : (b : Bool) → one_if b ≤ 1
 few true = omega arith

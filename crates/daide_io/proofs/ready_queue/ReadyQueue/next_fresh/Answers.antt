@@ -1,4 +1,4 @@
-use Rattle.std.proofs.Common.{◌≡◌, ℕ, ◌+◌, ◌≤◌, ◌<◌, ◌++◌, ◌∷◌, false, length, arith, subst, List}
+use Rattle.std.proofs.Common.{ℕ, ◌≤◌, ◌++◌, ◌∷◌, false, arith, subst, List}
 use Rattle.daide_io.specs.ReadyQueue.{AreMarked, mark_at, one_if}
 use Rattle.daide_io.proofs.ReadyLemmas.{is_there, same_is_one, length_set, leaves}
 use Rattle.daide_io.proofs.ready_queue.ReadyQueue.next_fresh.Goals as goal

@@ -1,7 +1,6 @@
-use Rattle.std.proofs.Common.{◌≡◌, ℕ, ◌+◌, ◌<◌, ◌++◌, [], ◌∷◌, true, false, length, arith, subst, sym, ap, ◌∙◌, List, slice_set}
-use Rattle.daide_io.specs.ReadyQueue.{ReadyView, AreMarked, mark_at, put_back}
-use Rattle.daide_io.proofs.ReadyLemmas.{read_false, room, joins, more_moving, length_set, free_joins}
-use Rattle.daide_io.proofs.ReadyLemmas as lemmas
+use Rattle.std.proofs.Common.{◌≡◌, ℕ, ◌<◌, ◌++◌, [], ◌∷◌, true, false, length, arith, subst, sym, List, slice_set}
+use Rattle.daide_io.specs.ReadyQueue.{AreMarked, mark_at}
+use Rattle.daide_io.proofs.ReadyLemmas.{read_false, room, joins, more_moving, length_set}
 use Rattle.daide_io.proofs.ready_queue.ReadyQueue.put_back.Goals as goal
 
 pub push_back_reserved-requires : goal.push_back_reserved-requires
