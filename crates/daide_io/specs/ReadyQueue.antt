@@ -8,8 +8,8 @@ pub record ReadyView : Type 0 where
   pub places : ℕ
 
 -- all places of a queue
-abbrev pub listed : ReadyView → List ℕ
-listed queue = queue.fresh ++ queue.moving
+abbrev pub queued_places : ReadyView → List ℕ
+queued_places queue = queue.fresh ++ queue.moving
 
 -- ---- each at most once
 
@@ -43,7 +43,7 @@ AreMarked marks places = (place : ℕ) → occurrences_of place places ≡ one_i
 -- ---- calls
 
 abbrev pub is_queued : ReadyView → ℕ → Bool
-is_queued queue place = is_among place (listed queue)
+is_queued queue place = is_among place (queued_places queue)
 
 -- it is a place, and not in the queue
 abbrev pub may_join : ReadyView → ℕ → Bool

@@ -4,7 +4,7 @@
 //! put back after its turns joins the end of `moving`. So each push and pop is one step, whatever the number of places.
 
 ghost use Rattle.std.specs.Prelude.{◌≡◌, ◌&&◌, ◌==◌, [], ◌∷◌, false, length, IfOk, IfSome, IfNone, OnErr};
-ghost use Rattle.daide_io.specs.ReadyQueue.{listed, woken, put_back, TakesFresh, TakesMoving, TakesNext};
+ghost use Rattle.daide_io.specs.ReadyQueue.{queued_places, woken, put_back, TakesFresh, TakesMoving, TakesNext};
 
 use daide_frame::memory::Memory;
 use std::alloc::{AllocError, Allocator, Global};
@@ -116,7 +116,7 @@ impl<A: Allocator> ReadyQueue<A> {
     /// other way round unless `fresh_first`.
     pub fn next(&mut self, fresh_first: bool) -> Option<usize>
         ensures some { IfSome result (λ place. TakesNext fresh_first self.old place self.new) }
-        ensures none { IfNone result ((listed self.old ≡ []) × (self.new ≡ self.old)) }
+        ensures none { IfNone result ((queued_places self.old ≡ []) × (self.new ≡ self.old)) }
     {
         if fresh_first {
             match self.next_fresh() {
