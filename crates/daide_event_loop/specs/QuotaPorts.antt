@@ -90,7 +90,7 @@ pub record Meters {P : Type 0} (transition : P → PortCall → P → Type 0) (o
   pub bytes : new.bytes ≡ counted_after answer old.bytes
   pub ports : EvolvesWhile transition new.turns_left old.ports answer new.ports
 
--- ---- the system at the beginning of a turn
+-- ---- the system at the beginning of a turn, and after the last one
 
 -- within the quota the system begins the turn, and is lent the ports; beyond it there is no such call
 abbrev pub beginning_where : {P : Type 0} → Option ℕ → ℕ → P → P → List (SystemCall P)
@@ -100,10 +100,7 @@ beginning_where None place before after = []
 abbrev pub beginning : {P : Type 0} → ℕ → QuotaPortsView P → QuotaPortsView P → List (SystemCall P)
 beginning place old new = beginning_where new.turns_left place old.ports new.ports
 
--- ---- the system after the turns of a visit
-
--- The system is to have a session rest if its last turn made no progress. If it made some, it does not rest, and the system
--- is not called.
-abbrev pub AsksToRest : {P : Type 0} → Bool → ℕ → P → List (SystemCall P) → Bool → Type 0
-AsksToRest true place ports answers rests = (answers ≡ []) × (rests ≡ false)
-AsksToRest false place ports answers rests = answers ≡ Rests place ports rests ∷ []
+-- whether a session rests: not after a turn that made progress, without a call; else the system says so
+abbrev pub RestsBy : {P : Type 0} → Bool → ℕ → P → List (SystemCall P) → Bool → Type 0
+RestsBy true place ports answers rests = (answers ≡ []) × (rests ≡ false)
+RestsBy false place ports answers rests = answers ≡ Rests place ports rests ∷ []

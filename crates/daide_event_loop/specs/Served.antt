@@ -1,6 +1,6 @@
 -- The effect of a run on each of its sessions: those that it has, and those that it retired.
-use Rattle.std.specs.Prelude.{◌≡◌, ℕ, zero, suc, ◌+◌, ◌<◌, ◌≤◌, nat_lt, Bool, true, false, List, [], ◌∷◌, length}
-use Rattle.std.specs.Prelude.{Option, Some, None, is_none, Contains, All, count_by, if◌then◌else◌}
+use Rattle.std.specs.Prelude.{◌≡◌, ℕ, zero, suc, ◌+◌, ◌<◌, ◌≤◌, nat_lt, Bool, true, false, List, [], ◌∷◌}
+use Rattle.std.specs.Prelude.{Option, Some, None, is_none, Contains, All, if◌then◌else◌}
 use Rattle.std.specs.List.{list_all}
 use Rattle.daide_protocol.specs.declared.ending.Ending.{Ending}
 use Rattle.daide_protocol.specs.Machine.{Limits, SessionState, Effect, Runs, ending_in}
@@ -13,7 +13,6 @@ use Rattle.daide_io.specs.Ports.{PortCall, TurnBegins, Clock, Pulled, Offered, E
 use Rattle.daide_driver.specs.Headline.{untouched, IsBoundedAndExact}
 use Rattle.daide_driver.specs.Totals.{HasTotals}
 use Rattle.daide_driver.specs.Hub.{IsBegun, IsTurned}
-use Rattle.daide_driver.specs.Slab.{is_free_place, is_kept, is_held, IfHeld}
 use Rattle.daide_settings.specs.declared.settings.Settings.{Settings}
 use Rattle.daide_io.specs.declared.system.Connect.TheVariants.{Ready, Failed}
 use Rattle.daide_io.specs.declared.system.Orders.{Orders}
@@ -22,15 +21,16 @@ use Rattle.daide_io.specs.declared.system.Cause.TheVariants as Causes
 use Rattle.daide_io.specs.declared.system.SessionEnd.{SessionEnd}
 use Rattle.daide_event_loop.specs.QuotaPorts.{QuotaPortsView, Meters, progress_by}
 use Rattle.daide_io.specs.System.{SystemCall, Polls, Shows, Accepts, Connects, BeginsTurn, Rests, Retires, Notifies}
-use Rattle.daide_event_loop.specs.Serving.{ServiceView, fresh, initial_service, is_done, Rounds, Serves}
+use Rattle.daide_driver.specs.Slab.{IfHeldAt, is_free_place}
+use Rattle.daide_event_loop.specs.Serving.{ServiceView, fresh, initial_service, is_done, sessions_in, pending_in, Rounds, Serves}
 use Rattle.daide_settings.specs.BotsInAll.{bots_in_all}
 
 -- the limits of a run's sessions
 abbrev pub run_limits : Settings → Limits
 run_limits settings = limits_with settings.config (words_of settings.words)
 
--- A session of a run: a connect delivered its ports at its place, with a full quota of turns; and by all its port calls
--- since, it has this property.
+-- A session of a run: the connect of the bot at a place delivered its ports, with a full quota of turns; and by all its
+-- port calls since, it has this property.
 pub record IsSessionOfRun {P : Type 0} (transition : P → PortCall → P → Type 0)
     (Kind : Limits → List PortCall → SessionView → Type 0) (settings : Settings) (answers : List (SystemCall P))
     (now : SessionView × QuotaPortsView P) : Type 0 where
@@ -72,7 +72,7 @@ IsEndOf limits turns history session end =
     × Runs (untouched limits).state (events_of (while_left turns history)) effects state × (end.cause ≡ cause_of (ending_in state.phase))
     × (end.account ≡ session.account) × (end.fault_field ≡ fault_field_of state)
 
--- retired ports are those of a closed session that was served at this place, and the reported end is that of this session
+-- retired ports are those of a closed session of this place that was served, and the reported end is that of this session
 abbrev pub RetiresClosed : {P : Type 0} → (P → PortCall → P → Type 0) → Settings → List (SystemCall P) →
     SystemCall P → Type 0
 RetiresClosed {P} transition settings answers (Retires place ports end) =
@@ -139,7 +139,7 @@ HeedsStops (answer ∷ answers) =
     (0 < orders_with (λ orders. orders.stops_accepting) answer → sum_over_calls accept_calls answers ≡ 0) × HeedsStops answers
 
 -- After any rounds of a run. After an order to stop accepting, accept is not called any more, and the run is done as soon
--- as no connect is under way and no session is left. Without such an order, the run is done when all bots of its settings
+-- as each place is free. Without such an order, the run is done when all bots of its settings
 -- came and were served. Without an order to show the sessions, none is shown.
 pub record HeedsOrders {P : Type 0} (settings : Settings) (answers : List (SystemCall P)) (run : ServiceView P) : Type 0 where
   pub stops : HeedsStops answers
@@ -153,18 +153,23 @@ OrdersAreHeeded {P} transition = (settings : Settings) (n : ℕ) (answers : List
 
 -- ---- a whole run
 
--- After any rounds of a run: each session that it has is served, and so is each that it retired. Of the ports delivered
--- it has all that it did not retire. It counts each bot that it accepted. Each of these bots has a connect under way,
--- got a session, or could not reach the server.
+-- each session that a run has is served, at its place
+abbrev pub AreServed : {P : Type 0} → (P → PortCall → P → Type 0) → Settings → List (SystemCall P) → ServiceView P → Type 0
+AreServed transition settings answers run = (place : ℕ) →
+    IfHeldAt run.slab.places place (λ now. (served : IsServed transition settings answers now) × (served.place ≡ place))
+
+-- After any rounds of a run: each session that it has is served, at the place that its bot got, and so is each that it
+-- retired. Of the ports delivered it has all that it did not retire. It counts each bot that it accepted. For each of these
+-- bots the connect is pending, it got a session, or it could not reach the server.
 abbrev pub SessionsAreServed : {P : Type 0} → (P → PortCall → P → Type 0) → Type 0
 SessionsAreServed {P} transition = (settings : Settings) (n : ℕ) (answers : List (SystemCall P)) (run : ServiceView P) →
     Rounds transition n (initial_service settings) answers run →
-    All (IfHeld (IsServed transition settings answers)) run.slab.places × All (RetiresClosed transition settings answers) answers
-    × (sum_over_calls connects answers ≡ count_by is_held run.slab.places + sum_over_calls retires answers)
+    AreServed transition settings answers run × All (RetiresClosed transition settings answers) answers
+    × (sum_over_calls connects answers ≡ sessions_in run.slab + sum_over_calls retires answers)
     × (run.counters.accepted ≡ sum_over_calls comes answers)
-    × (sum_over_calls comes answers ≡ count_by is_kept run.slab.places + sum_over_calls connects answers + sum_over_calls unreached answers)
+    × (sum_over_calls comes answers ≡ pending_in run.slab + sum_over_calls connects answers + sum_over_calls unreached answers)
 
--- A whole run of settings: rounds until all bots were served and no session is left. So each completed connect was a
+-- A whole run of settings: rounds until all bots were served. So each completed connect was a
 -- session, which was served, and retired as a closed one. By all its port calls it is bounded and exact, and none is
 -- lost. As many bots were accepted as the settings say (`bots_in_all`), or at most so many if there was an order to stop
 -- accepting, after which none was accepted. For each, ports were retired or the server was unreachable.
@@ -178,7 +183,7 @@ pub record IsWholeRun {P : Type 0} (transition : P → PortCall → P → Type 0
   pub stops : HeedsStops answers
   pub all_served : sum_over_calls comes answers ≡ sum_over_calls retires answers + sum_over_calls unreached answers
 
--- Whether a turn made progress, which decides if another follows in the visit, follows from the port calls of the turn.
+-- Whether a turn made progress, which decides if its session may rest, follows from the port calls of the turn.
 abbrev pub MovesAreAnswered : {P : Type 0} → (P → PortCall → P → Type 0) → Type 0
 MovesAreAnswered {P} transition = (old mid new : SessionView × QuotaPortsView P) → IsBegun (Meters transition) old mid →
     (turn : IsTurned (Meters transition) mid new) → new.1.made_progress ≡ progress_by turn.exchange.call false

@@ -1,8 +1,9 @@
 -- The loop of a run: the system calls and the effect of each step of a round, a round, and a whole run, completed or
--- broken off. Each step is stated with its trace of system calls, recorded or not.
-use Rattle.std.specs.Prelude.{◌≡◌, ℕ, zero, suc, ◌+◌, ◌<◌, ◌≤◌, nat_lt, nat_le, Bool, true, false, ◌&&◌, ◌==◌, ◌⊎◌}
-use Rattle.std.specs.Prelude.{List, [], ◌∷◌, ◌++◌, length, Option, Some, None, is_none, slice_get, if◌then◌else◌}
-use Rattle.std.specs.List.{list_all, list_any}
+-- broken off. Each step is stated with its trace of system calls.
+use Rattle.std.specs.Prelude.{◌≡◌, ℕ, zero, suc, ◌+◌, ◌<◌, ◌≤◌, nat_le, Bool, true, false, ◌&&◌, ◌==◌, ◌⊎◌}
+use Rattle.std.specs.Prelude.{List, [], ◌∷◌, ◌++◌, length, count_by, Option, Some, None, is_none, slice_get}
+use Rattle.std.specs.Prelude.{if◌then◌else◌}
+use Rattle.std.specs.List.{list_all}
 use Rattle.daide_protocol.specs.declared.ending.Ending.{Ending}
 use Rattle.daide_protocol.specs.declared.ending.Ending.TheVariants.{Ended, Lost}
 use Rattle.daide_protocol.specs.declared.account.Account.{Account}
@@ -15,7 +16,7 @@ use Rattle.daide_io.specs.ReadyQueue.{ReadyView, queued_places, woken, woken_all
 use Rattle.daide_driver.specs.Hub.{IsBegun, IsTurned}
 use Rattle.daide_driver.specs.declared.place.SlabPlace.{SlabPlace}
 use Rattle.daide_driver.specs.declared.place.SlabPlace.TheVariants.{Free, Kept, Held}
-use Rattle.daide_driver.specs.Slab.{SlabView, IsAt, with_place, all_free, is_free_place, OpensAt, ChangesAt}
+use Rattle.daide_driver.specs.Slab.{SlabView, all_free, is_free_place, is_kept, is_held, IsAt, IsNoneFree, with_place, OpensAt, ChangesAt}
 use Rattle.daide_settings.specs.declared.settings.Settings.{Settings}
 use Rattle.daide_event_loop.specs.declared.serving.ServeFault.{ServeFault}
 use Rattle.daide_event_loop.specs.declared.serving.ServeFault.TheVariants as Faults
@@ -29,31 +30,17 @@ use Rattle.daide_io.specs.declared.system.Orders.{Orders}
 use Rattle.daide_io.specs.declared.system.SessionEnd.{SessionEnd}
 use Rattle.daide_io.specs.declared.fault_field.FaultField.{FaultField}
 use Rattle.daide_io.specs.FaultField.{fault_field_of}
-use Rattle.daide_event_loop.specs.QuotaPorts.{QuotaPortsView, Meters, beginning, AsksToRest}
+use Rattle.daide_event_loop.specs.QuotaPorts.{QuotaPortsView, Meters, beginning, RestsBy}
 use Rattle.daide_io.specs.System.{SystemCall, Polls, Shows, Accepts, Connects, Retires, Notifies, status_of}
 use Rattle.daide_io.specs.ByteCounts.{no_bytes}
 use Rattle.daide_settings.specs.BotsInAll.{bots_in_all}
 use Rattle.daide_protocol.specs.Machine.{ending_in}
 
--- the state of a run: the sessions at their places, the counters, and the queue of places that are to be visited
+-- the state of a run: its places with their sessions, the counters, and the places that are to be visited
 pub record ServiceView (P : Type 0) : Type 0 where
   pub slab : SlabView (QuotaPortsView P)
   pub counters : AdmissionCounters
   pub ready : ReadyView
-
--- ---- numbers
-
--- The quantum: the most turns of a session in one visit. A short frame takes four, and the fifth finds nothing to do. (own)
-abbrev pub quantum : ℕ
-quantum = 8
-
--- the most turns of a round (own)
-abbrev pub most_in_round : ℕ
-most_in_round = 32
-
--- As many turns of a round are left to those that used their quantum before, if there are any. (own)
-abbrev pub left_to_moving : ℕ
-left_to_moving = 8
 
 -- ---- the counters
 
@@ -65,20 +52,48 @@ have_all_come counters = counters.accepted == counters.sessions
 abbrev pub closed : AdmissionCounters → AdmissionCounters
 closed counters = record counters { sessions = counters.accepted }
 
--- all bots were served, and no place is used
+-- one bot more was accepted
+abbrev pub with_one_accepted : AdmissionCounters → AdmissionCounters
+with_one_accepted counters = record counters { accepted = counters.accepted + 1 }
+
+-- the counters after the orders of a poll: an order to stop accepting closes them for good
+abbrev pub heeding : Orders → AdmissionCounters → AdmissionCounters
+heeding orders counters = if orders.stops_accepting then closed counters else counters
+
+-- ---- the places
+
+-- how many sessions there are
+abbrev pub sessions_in : {P : Type 0} → SlabView P → ℕ
+sessions_in slab = count_by is_held slab.places
+
+-- how many bots wait for their connect to the server
+abbrev pub pending_in : {P : Type 0} → SlabView P → ℕ
+pending_in slab = count_by is_kept slab.places
+
+-- all bots were served: all were accepted, and each place is free
 abbrev pub is_done : {P : Type 0} → ServiceView P → Bool
 is_done run = have_all_come run.counters && list_all is_free_place run.slab.places
 
--- no more bots are accepted than the limit in all, and each place may be in the queue
-pub record IsRunSound {P : Type 0} (run : ServiceView P) : Type 0 where
-  pub accepted : run.counters.accepted ≤ run.counters.sessions
-  pub same_places : run.ready.places ≡ length run.slab.places
+-- no place is to be visited
+abbrev pub is_queue_empty : {P : Type 0} → ServiceView P → Bool
+is_queue_empty run = (length run.ready.fresh == 0) && (length run.ready.moving == 0)
+
+-- a place is free again
+abbrev pub with_free_place : {P : Type 0} → ServiceView P → ℕ → ServiceView P
+with_free_place run place = record run { slab = with_place run.slab place Free }
+
+-- a place is to be visited once more, after all others that had turns
+abbrev pub queued_again : {P : Type 0} → ServiceView P → ℕ → ServiceView P
+queued_again run place = record run { ready = put_back run.ready place }
 
 -- ---- a round begins
 
--- the counters after the orders of a round: an order to stop accepting closes them for good
-abbrev pub heeding : Orders → AdmissionCounters → AdmissionCounters
-heeding orders counters = if orders.stops_accepting then closed counters else counters
+-- after a poll that woke these places and returned these orders
+abbrev pub polled : {P : Type 0} → List ℕ → Orders → ServiceView P → ServiceView P
+polled woken orders run = record run {
+  counters = heeding orders run.counters;
+  ready = woken_all woken run.ready;
+}
 
 -- the status of each session is shown, in order of place
 abbrev pub shows : {P : Type 0} → List (SlabPlace (SessionView × QuotaPortsView P)) → List (SystemCall P)
@@ -91,18 +106,21 @@ abbrev pub shows_where : {P : Type 0} → Bool → List (SlabPlace (SessionView 
 shows_where true places = shows places
 shows_where false places = []
 
--- a round begins with a poll, which may block only if the queue is empty; then the status of each session is shown once if
--- the orders require it
-abbrev pub opening : {P : Type 0} → ServiceView P → List ℕ → Orders → List (SystemCall P)
-opening run woken orders =
-    Polls (length (queued_places run.ready) == 0) woken orders ∷ shows_where orders.shows_sessions run.slab.places
+-- a poll, which may block only if no place is to be visited; then the status of each session, if the orders require it
+abbrev pub opening : {P : Type 0} → List ℕ → Orders → ServiceView P → List (SystemCall P)
+opening woken orders run = Polls (is_queue_empty run) woken orders ∷ shows_where orders.shows_sessions run.slab.places
 
--- a run after its poll woke these places and returned these orders
-abbrev pub polled : {P : Type 0} → ServiceView P → List ℕ → Orders → ServiceView P
-polled run places orders =
-    record run { counters = heeding orders run.counters; ready = woken_all places run.ready }
+-- ---- the turns of a session
 
--- ---- a turn
+-- ports with a full quota of turns, which delivered and took nothing; new ports count as progress
+abbrev pub fresh : {P : Type 0} → P → ℕ → QuotaPortsView P
+fresh ports turns = record {
+  ports = ports;
+  turns_left = Some turns;
+  made_progress = true;
+  first_synthetic_end = None;
+  bytes = no_bytes;
+}
 
 -- a turn of a session begins with its own ports, and the system begins it with these while turns are left
 abbrev pub OpensTurn : {P : Type 0} → (P → PortCall → P → Type 0) → ℕ → List (SystemCall P) →
@@ -116,24 +134,35 @@ pub record TakesTurn {P : Type 0} (transition : P → PortCall → P → Type 0)
   pub begins : ChangesAt (OpensTurn transition place answers) old place begun
   pub runs : ChangesAt (IsTurned (Meters transition)) begun place new
 
--- whether the last turn of the session at a place made progress; not if there is none
+-- whether the last turn of the session at a place made progress; not if there is none at this place
 abbrev pub has_moved_in : {P : Type 0} → Option (SlabPlace (SessionView × QuotaPortsView P)) → Bool
 has_moved_in None = false
 has_moved_in (Some Free) = false
 has_moved_in (Some Kept) = false
 has_moved_in (Some (Held held)) = held.1.made_progress
 
--- A session that is due a turn has one, and then one more after each that made progress, but at most this many: `turns`.
-abbrev pub TakesTurns : {P : Type 0} → (P → PortCall → P → Type 0) → Bool → ℕ → SlabView (QuotaPortsView P) → ℕ →
-    List (SystemCall P) → ℕ → SlabView (QuotaPortsView P) → Type 0
-TakesTurns transition false most old place answers turns new = (answers ≡ []) × (turns ≡ 0) × (new ≡ old)
-TakesTurns transition true zero old place answers turns new = (answers ≡ []) × (turns ≡ 0) × (new ≡ old)
-TakesTurns {P} transition true (suc most) old place answers turns new =
-    (mid : SlabView (QuotaPortsView P)) × (first : List (SystemCall P)) × (second : List (SystemCall P)) × (others : ℕ)
-    × (answers ≡ first ++ second) × (turns ≡ suc others) × TakesTurn transition old place first mid
-    × TakesTurns transition (has_moved_in (slice_get mid.places place)) most mid place second others new
+-- n turns of the session at this place, each but the first after one that made progress
+abbrev pub TurnsInRow : {P : Type 0} → (P → PortCall → P → Type 0) → ℕ → SlabView (QuotaPortsView P) → ℕ →
+    List (SystemCall P) → SlabView (QuotaPortsView P) → Type 0
+TurnsInRow transition zero old place answers new = (answers ≡ []) × (new ≡ old)
+TurnsInRow {P} transition (suc n) old place answers new =
+    (mid : SlabView (QuotaPortsView P)) × (first : List (SystemCall P)) × (second : List (SystemCall P))
+    × (answers ≡ first ++ second) × TurnsInRow transition n old place first mid
+    × (0 < n → has_moved_in (slice_get mid.places place) ≡ true) × TakesTurn transition mid place second new
 
--- ---- a session ends
+-- The quantum: the most turns of a session in one visit. (own)
+abbrev pub quantum : ℕ
+quantum = 8
+
+-- A session has one turn at least and a quantum at most, one after another while they make progress.
+pub record TakesTurns {P : Type 0} (transition : P → PortCall → P → Type 0) (old : SlabView (QuotaPortsView P)) (place turns : ℕ)
+    (answers : List (SystemCall P)) (new : SlabView (QuotaPortsView P)) : Type 0 where
+  pub made : TurnsInRow transition turns old place answers new
+  pub some : 0 < turns
+  pub few : turns ≤ quantum
+  pub all : turns < quantum → has_moved_in (slice_get new.places place) ≡ false
+
+-- ---- the end of a session
 
 abbrev pub last_words : {P : Type 0} → Bool → List (SystemCall P)
 last_words true = Notifies TurnsSpent ∷ []
@@ -158,135 +187,142 @@ end_by told ending account field = record { cause = cause_by told ending; accoun
 
 -- the end of a session, with its account and the field that its fault is about
 abbrev pub end_of : {P : Type 0} → SessionView × QuotaPortsView P → SessionEnd
-end_of place =
-    end_by place.1.first_synthetic_end (ending_in place.0.state.phase) place.0.account (fault_field_of place.0.state)
+end_of now = end_by now.1.first_synthetic_end (ending_in now.0.state.phase) now.0.account (fault_field_of now.0.state)
 
 -- spent turns are reported, if so, and then the ports are retired with the end of their session
 abbrev pub parting : {P : Type 0} → ℕ → QuotaPortsView P → SessionEnd → List (SystemCall P)
 parting place meter end = last_words (is_none meter.turns_left) ++ Retires place meter.ports end ∷ []
 
--- ---- after the turns
-
--- a session that does not rest goes to the end of the queue
-abbrev pub queued_unless : {P : Type 0} → Bool → ServiceView P → ℕ → ServiceView P
-queued_unless true run place = run
-queued_unless false run place = record run { ready = put_back run.ready place }
-
--- A session that is closed is retired, and its place is free. Any other rests, or goes to the end of the queue.
-abbrev pub LeavesSession : {P : Type 0} → Bool → ServiceView P → ℕ → SessionView × QuotaPortsView P → List (SystemCall P) →
-    ServiceView P → Type 0
-LeavesSession true old place held answers new =
-    (answers ≡ parting place held.1 (end_of held)) × (new ≡ record old { slab = with_place old.slab place Free })
-LeavesSession false old place held answers new = (rests : Bool)
-    × AsksToRest held.1.made_progress place held.1.ports answers rests × (new ≡ queued_unless rests old place)
-
 -- ---- a visit
 
--- the session at this place has its turns, at most `quantum`, and then is retired, or rests, or goes to the end of the queue
-pub record VisitsSession {P : Type 0} (transition : P → PortCall → P → Type 0) (old : ServiceView P) (place : ℕ)
-    (answers : List (SystemCall P)) (turns : ℕ) (new : ServiceView P) : Type 0 where
-  pub first : List (SystemCall P)
-  pub second : List (SystemCall P)
+-- After its turns a closed session is retired, and its place is free. An open one rests if its last turn made no progress
+-- and the system has it rest; otherwise its place joins the end of the queue.
+abbrev pub LeavesVisit : {P : Type 0} → Bool → SessionView × QuotaPortsView P → ServiceView P → ℕ → List (SystemCall P) →
+    ServiceView P → Type 0
+LeavesVisit true now old place answers new = (answers ≡ parting place now.1 (end_of now)) × (new ≡ with_free_place old place)
+LeavesVisit false now old place answers new =
+    (rests : Bool) × RestsBy now.1.made_progress place now.1.ports answers rests
+    × (new ≡ (if rests then old else queued_again old place))
+
+-- the session at this place has this many turns, and leaves the visit as they left it
+pub record TurnsAndLeaves {P : Type 0} (transition : P → PortCall → P → Type 0) (old : ServiceView P) (place turns : ℕ)
+    (answers : List (SystemCall P)) (new : ServiceView P) : Type 0 where
+  pub now : SessionView × QuotaPortsView P
   pub turned : SlabView (QuotaPortsView P)
-  pub held : SessionView × QuotaPortsView P
-  pub takes : TakesTurns transition true quantum old.slab place first turns turned
-  pub there : IsAt turned place (Held held)
-  pub leaves : LeavesSession (is_closed held.0) (record old { slab = turned }) place held second new
-  pub asked : answers ≡ first ++ second
+  pub turning : List (SystemCall P)
+  pub leaving : List (SystemCall P)
+  pub takes : TakesTurns transition old.slab place turns turning turned
+  pub there : IsAt turned place (Held now)
+  pub leaves : LeavesVisit (is_closed now.0) now (record old { slab = turned }) place leaving new
+  pub asked : answers ≡ turning ++ leaving
 
--- ports with a full quota of turns, which delivered and took nothing; new ports count as progress, so that their session
--- has a turn in the same visit
-abbrev pub fresh : {P : Type 0} → P → ℕ → QuotaPortsView P
-fresh ports turns = record {
-  ports = ports;
-  turns_left = Some turns;
-  made_progress = true;
-  first_synthetic_end = None;
-  bytes = no_bytes;
-}
-
--- A completed connect becomes a session in its opening state, which is visited. A failed one is reported, and its place is
--- free. One without a result rests.
-abbrev pub Meets : {P : Type 0} → (P → PortCall → P → Type 0) → Connect P → ServiceView P → ℕ → List (SystemCall P) → ℕ →
+-- a completed connect turns into a session in its opening state, which has turns; a failed one is reported, and its place
+-- is free; a pending one goes on
+abbrev pub MeetsBy : {P : Type 0} → (P → PortCall → P → Type 0) → Connect P → ServiceView P → ℕ → ℕ → List (SystemCall P) →
     ServiceView P → Type 0
-Meets {P} transition (Ready ports) old place answers turns new = (opened : SlabView (QuotaPortsView P))
-    × OpensAt old.slab place (fresh ports old.counters.turns) opened
-    × VisitsSession transition (record old { slab = opened }) place answers turns new
-Meets transition Failed old place answers turns new = (answers ≡ Notifies CannotReach ∷ []) × (turns ≡ 1)
-    × (new ≡ record old { slab = with_place old.slab place Free })
-Meets transition Pending old place answers turns new = (answers ≡ []) × (turns ≡ 1) × (new ≡ old)
+MeetsBy {P} transition (Ready ports) old place turns told new =
+    (opened : SlabView (QuotaPortsView P)) × OpensAt old.slab place (fresh ports old.counters.turns) opened
+    × TurnsAndLeaves transition (record old { slab = opened }) place turns told new
+MeetsBy transition Failed old place turns told new =
+    (turns ≡ 1) × (told ≡ Notifies CannotReach ∷ []) × (new ≡ with_free_place old place)
+MeetsBy transition Pending old place turns told new = (turns ≡ 1) × (told ≡ []) × (new ≡ old)
 
--- The visit of a place with this. One that is free stays as it is: something may be reported of it after its session ended.
--- A visit counts as one turn at least, so that a round ends.
-abbrev pub VisitsPlaceWith : {P : Type 0} → (P → PortCall → P → Type 0) → Option (SlabPlace (SessionView × QuotaPortsView P)) →
-    ServiceView P → ℕ → List (SystemCall P) → ℕ → ServiceView P → Type 0
-VisitsPlaceWith transition None old place answers turns new = (answers ≡ []) × (turns ≡ 1) × (new ≡ old)
-VisitsPlaceWith transition (Some Free) old place answers turns new = (answers ≡ []) × (turns ≡ 1) × (new ≡ old)
-VisitsPlaceWith {P} transition (Some Kept) old place answers turns new = (connect : Connect P) × (others : List (SystemCall P))
-    × (answers ≡ Connects place connect ∷ others) × Meets transition connect old place others turns new
-VisitsPlaceWith transition (Some (Held held)) old place answers turns new =
-    VisitsSession transition old place answers turns new
+-- A visit of a place, by what is there. A visit without a turn counts as one, so that a round ends.
+abbrev pub VisitsBy : {P : Type 0} → (P → PortCall → P → Type 0) → Option (SlabPlace (SessionView × QuotaPortsView P)) → ServiceView P → ℕ →
+    ℕ → List (SystemCall P) → ServiceView P → Type 0
+VisitsBy transition None old place turns answers new = (turns ≡ 1) × (answers ≡ []) × (new ≡ old)
+VisitsBy transition (Some Free) old place turns answers new = (turns ≡ 1) × (answers ≡ []) × (new ≡ old)
+VisitsBy {P} transition (Some Kept) old place turns answers new =
+    (connect : Connect P) × (told : List (SystemCall P)) × (answers ≡ Connects place connect ∷ told)
+    × MeetsBy transition connect old place turns told new
+VisitsBy transition (Some (Held held)) old place turns answers new =
+    TurnsAndLeaves transition old place turns answers new
 
--- the next place of the queue is taken out and visited, after this many turns of the round
-pub record VisitsNext {P : Type 0} (transition : P → PortCall → P → Type 0) (before : ℕ) (old : ServiceView P) (place : ℕ)
-    (answers : List (SystemCall P)) (turns : ℕ) (new : ServiceView P) : Type 0 where
+abbrev pub VisitsPlace : {P : Type 0} → (P → PortCall → P → Type 0) → ServiceView P → ℕ → ℕ → List (SystemCall P) →
+    ServiceView P → Type 0
+VisitsPlace transition old place = VisitsBy transition (slice_get old.slab.places place) old place
+
+-- ---- the visits of a round
+
+-- The most turns of a round. (own)
+abbrev pub round_turns : ℕ
+round_turns = 32
+
+-- after this many turns there is room for one visit more
+abbrev pub has_room : ℕ → Bool
+has_room turns = nat_le (turns + quantum) round_turns
+
+-- The place to visit after this many turns is the first of those that were at rest. The last quantum of a round is for
+-- those that had turns before, if there are any.
+abbrev pub Chooses : ℕ → ReadyView → ℕ → ReadyView → Type 0
+Chooses turns = TakesNext (has_room (turns + quantum))
+
+-- the next place of the queue leaves it and is visited
+pub record VisitsNext {P : Type 0} (transition : P → PortCall → P → Type 0) (before : ℕ) (old : ServiceView P) (place turns : ℕ)
+    (answers : List (SystemCall P)) (new : ServiceView P) : Type 0 where
   pub ready : ReadyView
-  pub room : before + quantum ≤ most_in_round
-  pub takes : TakesNext (nat_le (before + quantum + left_to_moving) most_in_round) old.ready place ready
-  pub visits : VisitsPlaceWith transition (slice_get old.slab.places place) (record old { ready = ready }) place answers turns new
+  pub room : has_room before ≡ true
+  pub chooses : Chooses before old.ready place ready
+  pub visits : VisitsPlace transition (record old { ready = ready }) place turns answers new
 
--- these places are visited, one after another, from this many turns of the round on until that many
-abbrev pub Visits : {P : Type 0} → (P → PortCall → P → Type 0) → ℕ → List ℕ → ServiceView P → List (SystemCall P) → ℕ →
+-- these places were visited one after another, the last one first in the list, with this many turns in all
+abbrev pub Visits : {P : Type 0} → (P → PortCall → P → Type 0) → List ℕ → ℕ → ServiceView P → List (SystemCall P) →
     ServiceView P → Type 0
-Visits transition before [] old answers after new = (answers ≡ []) × (after ≡ before) × (new ≡ old)
-Visits {P} transition before (place ∷ places) old answers after new =
-    (mid : ServiceView P) × (first : List (SystemCall P)) × (second : List (SystemCall P)) × (turns : ℕ)
-    × (answers ≡ first ++ second) × VisitsNext transition before old place first turns mid
-    × Visits transition (before + turns) places mid second after new
+Visits transition [] turns old answers new = (turns ≡ 0) × (answers ≡ []) × (new ≡ old)
+Visits {P} transition (place ∷ earlier) turns old answers new =
+    (mid : ServiceView P) × (before : ℕ) × (more : ℕ) × (first : List (SystemCall P)) × (second : List (SystemCall P))
+    × (turns ≡ before + more) × (answers ≡ first ++ second) × Visits transition earlier before old first mid
+    × VisitsNext transition before mid place more second new
+
+-- places of the queue are visited, until none is left or the round had its turns
+pub record VisitsReady {P : Type 0} (transition : P → PortCall → P → Type 0) (old : ServiceView P) (answers : List (SystemCall P))
+    (new : ServiceView P) : Type 0 where
+  pub visited : List ℕ
+  pub turns : ℕ
+  pub takes : Visits transition visited turns old answers new
+  pub ends : has_room turns ≡ true → queued_places new.ready ≡ []
 
 -- ---- a bot is accepted
 
--- one more bot may be accepted: not all have come, and a place is free
-abbrev pub may_accept : {P : Type 0} → ServiceView P → Bool
-may_accept run = nat_lt run.counters.accepted run.counters.sessions && list_any is_free_place run.slab.places
-
--- A bot that came has its place, which is visited, since its connect may have failed already.
-abbrev pub come : {P : Type 0} → Bool → ServiceView P → ℕ → ServiceView P
-come true run place = record {
+-- a place is kept for a bot that came, and is to be visited, since its connect may have failed already
+abbrev pub accepted_at : {P : Type 0} → ServiceView P → ℕ → ServiceView P
+accepted_at run place = record {
   slab = with_place run.slab place Kept;
-  counters = record run.counters { accepted = run.counters.accepted + 1 };
+  counters = with_one_accepted run.counters;
   ready = woken run.ready place;
 }
-come false run place = run
 
--- the system is called once for a free place if one more bot may be accepted, otherwise not
-abbrev pub AdmitsWhere : {P : Type 0} → Bool → ServiceView P → List (SystemCall P) → ServiceView P → Type 0
-AdmitsWhere true old answers new = (place : ℕ) × (came : Bool) × IsAt old.slab place Free
-    × (answers ≡ Accepts place came ∷ []) × (new ≡ come came old place)
-AdmitsWhere false old answers new = (answers ≡ []) × (new ≡ old)
+-- the system is asked once for a bot at a free place
+pub record AsksForBot {P : Type 0} (old : ServiceView P) (answers : List (SystemCall P)) (new : ServiceView P) : Type 0 where
+  pub place : ℕ
+  pub came : Bool
+  pub due : have_all_come old.counters ≡ false
+  pub free : IsAt old.slab place Free
+  pub asked : answers ≡ Accepts place came ∷ []
+  pub then_kept : new ≡ (if came then accepted_at old place else old)
+
+-- the system is not asked: all bots came, or no place is free
+abbrev pub AsksForNone : {P : Type 0} → ServiceView P → List (SystemCall P) → ServiceView P → Type 0
+AsksForNone old answers new =
+    ((have_all_come old.counters ≡ true) ⊎ IsNoneFree old.slab.places) × (answers ≡ []) × (new ≡ old)
 
 abbrev pub Admits : {P : Type 0} → ServiceView P → List (SystemCall P) → ServiceView P → Type 0
-Admits old = AdmitsWhere (may_accept old) old
+Admits old answers new = AsksForBot old answers new ⊎ AsksForNone old answers new
 
 -- ---- a round
 
--- The network is polled, and the poll blocks only if the queue is empty. It wakes places, and returns orders, by which the
--- status of each session may be shown, and no bot may be accepted any more. Then places of the queue are visited, until it
--- is empty or another visit might exceed the turns of a round. At most one bot is accepted.
+-- A poll wakes places and returns orders, by which the status of each session may be shown, and no bot may be accepted any
+-- more. Then places of the queue are visited, and at most one bot is accepted.
 pub record Round {P : Type 0} (transition : P → PortCall → P → Type 0) (old : ServiceView P)
     (answers : List (SystemCall P)) (new : ServiceView P) : Type 0 where
-  pub orders : Orders
   pub woken : List ℕ
-  pub visited : List ℕ
-  pub visits : List (SystemCall P)
+  pub orders : Orders
+  pub visiting : List (SystemCall P)
   pub admission : List (SystemCall P)
-  pub turns : ℕ
   pub mid : ServiceView P
-  pub takes : Visits transition 0 visited (polled old woken orders) visits turns mid
-  pub enough : (most_in_round < turns + quantum) ⊎ (queued_places mid.ready ≡ [])
+  pub visits : VisitsReady transition (polled woken orders old) visiting mid
   pub admits : Admits mid admission new
-  pub sound : IsRunSound new
-  pub asked : answers ≡ opening old woken orders ++ visits ++ admission
+  pub asked : answers ≡ opening woken orders old ++ visiting ++ admission
 
 -- ---- a run
 
@@ -310,39 +346,48 @@ initial_service settings = record {
   ready = record { fresh = []; moving = []; places = settings.max_sessions };
 }
 
--- rounds from the opening, until all bots were served and no session is left
+-- rounds from the opening, until all bots were served
 abbrev pub Serves : {P : Type 0} → (P → PortCall → P → Type 0) → Settings → List (SystemCall P) → Type 0
 Serves {P} transition settings answers =
     (n : ℕ) × (end : ServiceView P) × Rounds transition n (initial_service settings) answers end × (is_done end ≡ true)
 
 -- ---- a run that is broken off
 
--- Visits of places, and at the next place a session was refused its memory: a connect was under way and completed. The ports
--- are dropped. `Refuses` is the allocator's relation of that name.
-pub record BreaksVisits {P : Type 0} (Refuses : ℕ → Type 0) (transition : P → PortCall → P → Type 0) (old : ServiceView P)
+-- The connect of the bot at a place completed, but its session was refused its memory. The ports are dropped, and the
+-- place stays kept. `Refuses` is the allocator's relation of that name.
+pub record IsRefusedAt {P : Type 0} (Refuses : ℕ → Type 0) (old : ServiceView P) (place : ℕ) (answers : List (SystemCall P))
+    (new : ServiceView P) : Type 0 where
+  pub ports : P
+  pub pending : IsAt old.slab place Kept
+  pub asked : answers ≡ Connects place (Ready ports) ∷ []
+  -- the memory of a body of the longest length
+  pub refused : Refuses old.slab.limits.cap
+  pub same : new ≡ old
+
+-- places of the queue are visited, until a new session is refused its memory
+pub record VisitsUntilRefused {P : Type 0} (Refuses : ℕ → Type 0) (transition : P → PortCall → P → Type 0) (old : ServiceView P)
     (answers : List (SystemCall P)) (new : ServiceView P) : Type 0 where
   pub visited : List ℕ
-  pub visits : List (SystemCall P)
   pub turns : ℕ
+  pub before : List (SystemCall P)
+  pub last : List (SystemCall P)
   pub mid : ServiceView P
   pub ready : ReadyView
   pub place : ℕ
-  pub ports : P
-  pub takes : Visits transition 0 visited old visits turns mid
-  pub room : turns + quantum ≤ most_in_round
-  pub next : TakesNext (nat_le (turns + quantum + left_to_moving) most_in_round) mid.ready place ready
-  pub under_way : IsAt mid.slab place Kept
-  pub asked : answers ≡ visits ++ Connects place (Ready ports) ∷ []
-  -- the memory of a body of the longest length
-  pub refused : Refuses old.slab.limits.cap
-  pub leaves : new ≡ record mid { ready = ready }
+  pub takes : Visits transition visited turns old before mid
+  pub room : has_room turns ≡ true
+  pub chooses : Chooses turns mid.ready place ready
+  pub refuses : IsRefusedAt Refuses (record mid { ready = ready }) place last new
+  pub asked : answers ≡ before ++ last
 
--- A round that began as any round, and was broken off in its visits.
-abbrev pub BreaksOff : {P : Type 0} → (ℕ → Type 0) → (P → PortCall → P → Type 0) → ServiceView P → List (SystemCall P) →
-    ServiceView P → Type 0
-BreaksOff {P} Refuses transition old answers new = (woken : List ℕ) × (orders : Orders) × (visits : List (SystemCall P))
-    × (answers ≡ opening old woken orders ++ visits)
-    × BreaksVisits Refuses transition (polled old woken orders) visits new
+-- a round that ends with the visit whose session was refused its memory; it began as any round
+pub record BreaksOff {P : Type 0} (Refuses : ℕ → Type 0) (transition : P → PortCall → P → Type 0) (old : ServiceView P)
+    (answers : List (SystemCall P)) (new : ServiceView P) : Type 0 where
+  pub woken : List ℕ
+  pub orders : Orders
+  pub visiting : List (SystemCall P)
+  pub visits : VisitsUntilRefused Refuses transition (polled woken orders old) visiting new
+  pub asked : answers ≡ opening woken orders old ++ visiting
 
 -- rounds from the opening, and a broken-off round of a run that is not done
 pub record RunsOut {P : Type 0} (Refuses : ℕ → Type 0) (transition : P → PortCall → P → Type 0) (settings : Settings)

@@ -1,7 +1,7 @@
 -- What a run knows of the places that are not in its queue. The last turn of a session made no progress, the system found
 -- nothing that may be done at once for its ports, no call was made on them since, and no poll woke the place since. A
 -- connect had no result. (own)
-use Rattle.std.specs.Prelude.{◌≡◌, ℕ, ◌<◌, ◌⊎◌, min, true, false, List, length, Contains, All, IfSome, Some, None, slice_get}
+use Rattle.std.specs.Prelude.{◌≡◌, ℕ, suc, ◌<◌, ◌⊎◌, ◌++◌, min, true, false, List, [], ◌∷◌, length, Contains, All, IfSome, Some, None, slice_get}
 use Rattle.daide_frame.specs.declared.side.Side.{Side}
 use Rattle.daide_protocol.specs.Wires.{SessionView, queued, front_of, room_of, no_frame}
 use Rattle.daide_io.specs.declared.ports.ClockEvent.TheVariants.{NoEvent}
@@ -11,13 +11,14 @@ use Rattle.daide_io.specs.declared.ports.Put.TheVariants.{Took}
 use Rattle.daide_io.specs.Ports.{PortCall, TurnBegins, Clock, Pulled, Offered, EvolvesBy}
 use Rattle.daide_io.specs.ReadyQueue.{is_queued}
 use Rattle.daide_io.specs.declared.system.Connect.TheVariants.{Pending}
-use Rattle.daide_io.specs.System.{SystemCall, Connects, Rests, last_about}
+use Rattle.daide_io.specs.System.{SystemCall, Accepts, Connects, Rests, last_about}
 use Rattle.daide_driver.specs.declared.place.SlabPlace.{SlabPlace}
 use Rattle.daide_driver.specs.declared.place.SlabPlace.TheVariants.{Free, Kept, Held}
+use Rattle.daide_driver.specs.Slab.{IsAt}
 use Rattle.daide_driver.specs.Turn.{Turn, most_pulled}
 use Rattle.daide_settings.specs.declared.settings.Settings.{Settings}
 use Rattle.daide_event_loop.specs.QuotaPorts.{QuotaPortsView}
-use Rattle.daide_event_loop.specs.Serving.{ServiceView, Rounds, initial_service}
+use Rattle.daide_event_loop.specs.Serving.{ServiceView, Rounds, initial_service, is_queue_empty, have_all_come}
 
 -- ---- a turn without progress
 
@@ -85,3 +86,13 @@ RestsUnlessQueued transition calls run = (place : ℕ) → is_queued run.ready p
 abbrev pub RestingSessionsAreIdle : {P : Type 0} → (P → PortCall → P → Type 0) → Type 0
 RestingSessionsAreIdle {P} transition = (settings : Settings) (n : ℕ) (calls : List (SystemCall P)) (run : ServiceView P) →
     Rounds transition n (initial_service settings) calls run → RestsUnlessQueued transition calls run
+
+-- ---- a poll that may block
+
+-- After any rounds but none, a run with nothing to visit, whose next poll may block: if one more bot may be accepted, the
+-- last call asked for one, and none came.
+abbrev pub NoBotIsLeftOut : {P : Type 0} → (P → PortCall → P → Type 0) → Type 0
+NoBotIsLeftOut {P} transition = (settings : Settings) (n : ℕ) (calls : List (SystemCall P)) (run : ServiceView P) →
+    Rounds transition (suc n) (initial_service settings) calls run → is_queue_empty run ≡ true → have_all_come run.counters ≡ false →
+    (place : ℕ) → IsAt run.slab place Free →
+    (before : List (SystemCall P)) × (asked : ℕ) × (calls ≡ before ++ Accepts asked false ∷ [])

@@ -43,7 +43,7 @@ impl<P: Ports> Model for QuotaPorts<P> {
 }
 
 impl<P: Ports> QuotaPorts<P> {
-    ghost use Rattle.daide_event_loop.specs.QuotaPorts.{Meters, beginning, AsksToRest};
+    ghost use Rattle.daide_event_loop.specs.QuotaPorts.{Meters, beginning, RestsBy};
 
     /// Wraps ports with a quota of `turns` turns.
     pub fn new(ports: P, turns: u64) -> QuotaPorts<P>
@@ -110,7 +110,7 @@ impl<P: Ports> QuotaPorts<P> {
     #[inline(always)]
     pub fn rests<S: System<P>>(&self, place: usize, system: &mut S) -> bool
         ensures { (answers : List (SystemCall P)) × TransitsBy S.transition system.old answers system.new
-            × AsksToRest self.now.made_progress place self.now.ports answers result }
+            × RestsBy self.now.made_progress place self.now.ports answers result }
     {
         !self.made_progress && system.rest(place, &self.ports)
     }

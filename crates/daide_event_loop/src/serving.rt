@@ -5,15 +5,12 @@
 //! A session that is not in the queue is at rest. It uses no socket. The system is a parameter, so that tests can drive
 //! whole runs in memory.
 
-ghost use Rattle.std.specs.Prelude.{◌≡◌, ℕ, ◌+◌, ◌<◌, ◌⊎◌, true, false, List, [], ◌∷◌, length, Ok, Some, OnOk, OnErr, IfOk, IfErr, slice_get};
-ghost use Rattle.daide_protocol.specs.Wires.{is_closed};
-ghost use Rattle.daide_io.specs.ReadyQueue.{queued_places};
-ghost use Rattle.daide_io.specs.System.{SystemCall, Connects, TransitsBy};
-ghost use Rattle.daide_driver.specs.declared.place.SlabPlace.TheVariants.{Kept};
-ghost use Rattle.daide_driver.specs.Slab.{IsAt, OpensAt, is_at, is_held};
-ghost use Rattle.daide_event_loop.specs.Serving.{quantum, most_in_round, shows_where, parting, is_reported, cause_by, end_by, fresh};
-ghost use Rattle.daide_event_loop.specs.Serving.{TakesTurns, VisitsPlaceWith, Visits, Admits, Round, BreaksVisits, BreaksOff};
-ghost use Rattle.daide_event_loop.specs.Serving.{is_done, initial_service, IsServeCause, GivesUp};
+ghost use Rattle.std.specs.Prelude.{◌≡◌, true, false, List, OnOk, OnErr, IfOk, IfErr, Some};
+ghost use Rattle.daide_io.specs.System.{SystemCall, TransitsBy};
+ghost use Rattle.daide_driver.specs.Slab.{is_at, is_held};
+ghost use Rattle.daide_event_loop.specs.Serving.{shows_where, is_reported, cause_by, end_by, parting, TakesTurn, TakesTurns};
+ghost use Rattle.daide_event_loop.specs.Serving.{TurnsAndLeaves, VisitsPlace, VisitsReady, Admits, Round, is_done, initial_service};
+ghost use Rattle.daide_event_loop.specs.Serving.{IsRefusedAt, VisitsUntilRefused, BreaksOff, GivesUp, IsServeCause};
 ghost use Rattle.daide_event_loop.specs.Served.{IsWholeRun};
 
 use crate::admission_counters::AdmissionCounters;
@@ -64,13 +61,15 @@ pub struct Service<P: Ports, A: Allocator = Global> {
 }
 
 impl<P: Ports, A: Allocator> Model for Service<P, A> {
-    ghost use Rattle.daide_event_loop.specs.Serving.{ServiceView, IsRunSound};
+    ghost use Rattle.std.specs.Prelude.{◌≤◌};
+    ghost use Rattle.daide_event_loop.specs.Serving.{ServiceView};
 
     ghost Value = { ServiceView P };
 
     ghost view = { λ s. record { slab = s.slab; counters = s.counters; ready = s.ready } };
 
-    ghost invariant = { λ s. IsRunSound (record { slab = s.slab; counters = s.counters; ready = s.ready }) };
+    // no more bots were accepted than the run serves in all
+    ghost invariant = { λ s. s.counters.accepted ≤ s.counters.sessions };
 }
 
 /// Shows the operator the status of each session, in order of place, if the orders require it.
@@ -138,6 +137,42 @@ fn part_with<P: Ports, S: System<P>>(place: usize, removed: Removed<QuotaPorts<P
     system.retire(place, ports.into_ports(), end);
 }
 
+/// Makes one turn of the session at a place: the system begins it with the ports of that session.
+#[inline(always)]
+fn take_turn<P: Ports, A: Allocator + Copy, S: System<P>>(
+    slab: &mut Slab<QuotaPorts<P>, A>,
+    place: usize,
+    system: &mut S,
+)
+    requires { is_at is_held slab.old.places place ≡ true }
+    ensures { (answers : List (SystemCall P)) × TransitsBy S.transition system.old answers system.new
+        × TakesTurn P.transition slab.old place answers slab.new }
+{
+    slab.ports_mut(place).begin_turn(place, system);
+    slab.turn(place);
+}
+
+/// Makes a turn of the session at a place, and then one more after each that made progress, at most `QUANTUM`. Returns
+/// how many.
+#[inline(always)]
+fn take_turns<P: Ports, A: Allocator + Copy, S: System<P>>(
+    slab: &mut Slab<QuotaPorts<P>, A>,
+    place: usize,
+    system: &mut S,
+) -> usize
+    requires { is_at is_held slab.old.places place ≡ true }
+    ensures { (answers : List (SystemCall P)) × TransitsBy S.transition system.old answers system.new
+        × TakesTurns P.transition slab.old place result answers slab.new }
+{
+    for turns in 0..QUANTUM {
+        take_turn(slab, place, system);
+        if !slab.ports(place).has_moved() {
+            return turns + 1;
+        }
+    }
+    QUANTUM
+}
+
 impl<P: Ports, A: Memory + Copy> Service<P, A> {
     /// Creates a run with no bot yet. Its only error is that the allocator refused the places.
     pub fn new(alloc: A, settings: &Settings) -> Result<Service<P, A>, AllocError>
@@ -183,101 +218,89 @@ impl<P: Ports, A: Memory + Copy> Service<P, A> {
         }
     }
 
-    /// Turns a completed connect of the bot at a place into a session, or reports a failed one. Returns whether there is a
-    /// session then. It is not inlined: the ports are large, and most visits are of a session.
-    ///
-    /// Fails with `Memory` if the allocator refused a body.
-    #[inline(never)]
-    fn meet<S: System<P>>(&mut self, place: usize, system: &mut S) -> Result<bool, ServeFault>
-        requires { is_at is_held self.old.slab.places place ≡ false }
-        ensures opened { result ≡ Ok true → (ports : P) × S.transition system.old (Connects place (Connect.Ready ports)) system.new
-            × IsAt self.old.slab place Kept
-            × OpensAt self.old.slab place (fresh ports self.old.counters.turns) self.new.slab
-            × (self.new ≡ record self.old { slab = self.new.slab }) }
-        ensures none { result ≡ Ok false → (answers : List (SystemCall P)) × TransitsBy S.transition system.old answers system.new
-            × VisitsPlaceWith P.transition (slice_get self.old.slab.places place) self.old place answers 1 self.new }
-        ensures refused { OnErr result (A.Refuses self.old.slab.limits.cap × IsAt self.old.slab place Kept
-            × (self.new ≡ self.old)
-            × (ports : P) × S.transition system.old (Connects place (Connect.Ready ports)) system.new) }
-        ensures fault { IfErr result (λ fault. fault ≡ ServeFault.Memory) }
-    {
-        // Something may be reported of a place after its session ended.
-        if !self.slab.is_kept(place) {
-            return Ok(false);
-        }
-        match system.connected(place) {
-            Connect::Pending => Ok(false),
-            Connect::Failed => {
-                self.slab.give_up(place);
-                system.tell(Notice::CannotReach);
-                Ok(false)
-            }
-            Connect::Ready(ports) => {
-                let ports = QuotaPorts::new(ports, self.counters.turns);
-                match self.slab.open(place, ports) {
-                    Ok(()) => Ok(true),
-                    Err(_ports) => Err(ServeFault::Memory),
-                }
-            }
-        }
-    }
-
-    /// Makes a turn of the session at a place, and then one more after each that made progress, at most `QUANTUM`. Returns
-    /// how many.
+    /// Gives the session at a place its turns. Then it is retired if it is closed, or rests, or its place goes to the end of
+    /// the queue. Returns how many turns it had.
     #[inline(always)]
-    fn take_turns<S: System<P>>(&mut self, place: usize, system: &mut S) -> usize
+    fn give_turns<S: System<P>>(&mut self, place: usize, system: &mut S) -> usize
         requires { is_at is_held self.old.slab.places place ≡ true }
-        ensures turns { (answers : List (SystemCall P)) × TransitsBy S.transition system.old answers system.new
-            × TakesTurns P.transition true quantum self.old.slab place answers result self.new.slab }
-        ensures held { is_at is_held self.new.slab.places place ≡ true }
-        ensures same { self.new ≡ record self.old { slab = self.new.slab } }
+        ensures { (answers : List (SystemCall P)) × TransitsBy S.transition system.old answers system.new
+            × TurnsAndLeaves P.transition self.old place result answers self.new }
     {
-        for turn in 1..=QUANTUM {
-            self.slab.ports_mut(place).begin_turn(place, system);
-            self.slab.turn(place);
-            if !self.slab.ports(place).has_moved() {
-                return turn;
-            }
-        }
-        QUANTUM
-    }
-
-    /// Visits a place: its session has its turns, and then is retired if it is closed, or rests, or goes to the end of the
-    /// queue. Returns the number of turns; one at least, so that a round ends.
-    #[inline(always)]
-    fn visit<S: System<P>>(&mut self, place: usize, system: &mut S) -> Result<usize, ServeFault>
-        ensures visits { IfOk result (λ turns. (answers : List (SystemCall P))
-            × TransitsBy S.transition system.old answers system.new
-            × VisitsPlaceWith P.transition (slice_get self.old.slab.places place) self.old place answers turns self.new) }
-        ensures refused { OnErr result (A.Refuses self.old.slab.limits.cap × IsAt self.old.slab place Kept
-            × (self.new ≡ self.old)
-            × (ports : P) × S.transition system.old (Connects place (Connect.Ready ports)) system.new) }
-        ensures fault { IfErr result (λ fault. fault ≡ ServeFault.Memory) }
-    {
-        if !self.slab.has(place) && !self.meet(place, system)? {
-            return Ok(1);
-        }
-        let turns = self.take_turns(place, system);
+        let turns = take_turns(&mut self.slab, place, system);
         if self.slab.session(place).is_closed() {
             let removed = self.slab.remove(place);
             part_with(place, removed, system);
         } else if !self.slab.ports(place).rests(place, system) {
             self.ready.put_back(place);
         }
-        Ok(turns)
+        turns
+    }
+
+    /// Visits a place without a session. If the connect of its bot completed, the session begins and has its turns; if it
+    /// failed, this is reported, and the place is free. Returns the number of turns. It is not inlined: the ports are large,
+    /// and most visits are of a session.
+    ///
+    /// Fails with `Memory` if the allocator refused a body.
+    #[inline(never)]
+    fn meet<S: System<P>>(&mut self, place: usize, system: &mut S) -> Result<usize, ServeFault>
+        requires { is_at is_held self.old.slab.places place ≡ false }
+        ensures visits { IfOk result (λ turns. (answers : List (SystemCall P))
+            × TransitsBy S.transition system.old answers system.new
+            × VisitsPlace P.transition self.old place turns answers self.new) }
+        ensures fault { IfErr result (λ fault. fault ≡ ServeFault.Memory) }
+        ensures broken_off { OnErr result ((answers : List (SystemCall P))
+            × TransitsBy S.transition system.old answers system.new
+            × IsRefusedAt A.Refuses self.old place answers self.new) }
+    {
+        // Something may be reported of a place after its session ended.
+        if !self.slab.is_kept(place) {
+            return Ok(1);
+        }
+        match system.connected(place) {
+            Connect::Pending => Ok(1),
+            Connect::Failed => {
+                self.slab.give_up(place);
+                system.tell(Notice::CannotReach);
+                Ok(1)
+            }
+            Connect::Ready(ports) => {
+                let ports = QuotaPorts::new(ports, self.counters.turns);
+                match self.slab.open(place, ports) {
+                    Ok(()) => Ok(self.give_turns(place, system)),
+                    Err(_ports) => Err(ServeFault::Memory),
+                }
+            }
+        }
+    }
+
+    /// Visits a place. Returns the number of turns of its session; one at least, so that a round ends.
+    #[inline(always)]
+    fn visit<S: System<P>>(&mut self, place: usize, system: &mut S) -> Result<usize, ServeFault>
+        ensures visits { IfOk result (λ turns. (answers : List (SystemCall P))
+            × TransitsBy S.transition system.old answers system.new
+            × VisitsPlace P.transition self.old place turns answers self.new) }
+        ensures fault { IfErr result (λ fault. fault ≡ ServeFault.Memory) }
+        ensures broken_off { OnErr result ((answers : List (SystemCall P))
+            × TransitsBy S.transition system.old answers system.new
+            × IsRefusedAt A.Refuses self.old place answers self.new) }
+    {
+        if self.slab.has(place) {
+            Ok(self.give_turns(place, system))
+        } else {
+            self.meet(place, system)
+        }
     }
 
     /// Visits places of the queue until it is empty, or until another visit might exceed `ROUND` turns. Those that were at
     /// rest come first, but the last `LEFT_TO_MOVING` turns are for one of the others, if there is one.
     fn visit_ready<S: System<P>>(&mut self, system: &mut S) -> Result<(), ServeFault>
-        ensures visits { OnOk result ((visited : List ℕ) × (answers : List (SystemCall P)) × (turns : ℕ)
+        ensures visits { OnOk result ((answers : List (SystemCall P))
             × TransitsBy S.transition system.old answers system.new
-            × Visits P.transition 0 visited self.old answers turns self.new
-            × ((most_in_round < turns + quantum) ⊎ (queued_places self.new.ready ≡ []))) }
+            × VisitsReady P.transition self.old answers self.new) }
+        ensures fault { IfErr result (λ fault. fault ≡ ServeFault.Memory) }
         ensures broken_off { OnErr result ((answers : List (SystemCall P))
             × TransitsBy S.transition system.old answers system.new
-            × BreaksVisits A.Refuses P.transition self.old answers self.new) }
-        ensures fault { IfErr result (λ fault. fault ≡ ServeFault.Memory) }
+            × VisitsUntilRefused A.Refuses P.transition self.old answers self.new) }
     {
         let mut turns = 0;
         while turns + QUANTUM <= ROUND {
@@ -292,6 +315,21 @@ impl<P: Ports, A: Memory + Copy> Service<P, A> {
 
     /// Makes one round: a poll, which blocks only if no place is to be visited; the operator's orders; visits of at most
     /// `ROUND` turns; and at most one accept.
+    ///
+    /// `round`: the poll wakes places, which join the queue. If its orders require it, the status of each session is shown
+    /// once before any other call, in order of place (`shows`). If they stop accepting, the bots accepted so far are all bots
+    /// of the run, in this round and from then on (`closed`). Sessions and pending connects go on. Then places of the queue
+    /// are visited: those that were at rest first, in their order, but the last of four visits goes to one that had turns
+    /// before, if there is one (`Chooses`). A session has up to 8 turns, one after another while they make progress
+    /// (`TakesTurns`); the system begins each with the session's ports. Then it is retired if it is over and nothing waits.
+    /// It rests if its last turn made no progress and the system has it rest, and otherwise joins the end of the queue
+    /// (`LeavesVisit`). The visit of a bot without a session asks for its connect (`MeetsBy`). A bot is accepted only if a place
+    /// is free and not all bots came (`Admits`).
+    ///
+    /// `refused`: its only fault is no memory for a session.
+    ///
+    /// `broken_off`: with this fault the round ends after the connect that succeeded. Its ports are dropped, and all
+    /// else is as the visits before it left it (`BreaksOff`).
     pub fn round<S: System<P>>(&mut self, system: &mut S) -> Result<(), ServeFault>
         ensures round { OnOk result ((answers : List (SystemCall P))
             × TransitsBy S.transition system.old answers system.new × Round P.transition self.old answers self.new) }
