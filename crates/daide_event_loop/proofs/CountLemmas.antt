@@ -1,25 +1,54 @@
--- The bots accepted, the connects under way, and the fate of the others.
-use Rattle.std.proofs.Common.{◌≡◌, ℕ, zero, suc, ◌+◌, Bool, true, false, List, [], ◌∷◌, ◌++◌, refl, sym}
-use Rattle.std.proofs.Common.{subst, arith}
-use Rattle.std.specs.Prelude.{◌==◌, is_none, if◌then◌else◌}
+-- The bots accepted, the connects pending, the sessions, and the fate of the others: what each step adds to them.
+use Rattle.std.proofs.Common.{◌≡◌, ℕ, zero, suc, ◌+◌, ◌<◌, Bool, true, false, cond, List, [], ◌∷◌, ◌++◌, Option, Some, None, refl, sym, ap, ◌∙◌}
+use Rattle.std.proofs.Common.{subst, arith, inl, inr}
+use Rattle.std.specs.Prelude.{count_by, slice_get, slice_set, is_none, if◌then◌else◌}
+use Rattle.std.proofs.lemmas.List.Sums.{sum_by-cons}
 use Rattle.daide_protocol.specs.Wires.{SessionView, is_closed}
-use Rattle.daide_driver.specs.Hub.{HubView}
+use Rattle.daide_io.specs.Ports.{PortCall}
 use Rattle.daide_io.specs.declared.system.Connect.{Connect}
 use Rattle.daide_io.specs.declared.system.Connect.TheVariants.{Ready, Failed, Pending}
-use Rattle.daide_io.specs.declared.system.Notice.TheVariants.{CannotReach}
-use Rattle.daide_event_loop.specs.declared.admission_counters.AdmissionCounters.{AdmissionCounters}
-use Rattle.daide_event_loop.specs.QuotaPorts.{QuotaPortsView}
-use Rattle.daide_io.specs.System.{SystemCall, Accepts, Connects, Retires, Notifies}
+use Rattle.daide_io.specs.declared.system.Notice.{Notice}
+use Rattle.daide_io.specs.declared.system.Notice.TheVariants.{CannotReach, TurnsSpent}
 use Rattle.daide_io.specs.declared.system.Orders.{Orders}
-use Rattle.daide_event_loop.specs.Serving.{arrived, come, closed, heeding, opening, AdmitsWhere, MeetsWhere, MeetsBy, last_words, retirement_where}
-use Rattle.daide_event_loop.specs.Serving.{end_of, retirement, retirements, wait_where}
-use Rattle.daide_event_loop.specs.Served.{comes, connects, unreached, sum_over_calls}
-use Rattle.daide_event_loop.proofs.BeginningLemmas.{OnlyTurns, none_counted, opening_none}
+use Rattle.daide_io.specs.declared.system.SessionEnd.{SessionEnd}
+use Rattle.daide_io.specs.declared.system.SessionStatus.{SessionStatus}
+use Rattle.daide_io.specs.System.{SystemCall, Polls, Shows, Accepts, Connects, BeginsTurn, Rests, Retires, Notifies, status_of}
+use Rattle.daide_driver.specs.Hub.{IsTurned}
+use Rattle.daide_driver.specs.declared.place.SlabPlace.{SlabPlace}
+use Rattle.daide_driver.specs.declared.place.SlabPlace.TheVariants.{Free, Kept, Held}
+use Rattle.daide_driver.specs.Slab.{SlabView, IsAt, is_held, is_kept, ChangesAt}
+use Rattle.daide_event_loop.specs.QuotaPorts.{QuotaPortsView, Meters, beginning_where, RestsBy}
+use Rattle.daide_event_loop.specs.Serving.{ServiceView, sessions_in, pending_in, shows, shows_where, opening, polled, heeding, closed, with_one_accepted}
+use Rattle.daide_event_loop.specs.Serving.{OpensTurn, TakesTurn, TurnsInRow, LeavesVisit, TurnsAndLeaves, MeetsBy, VisitsBy, VisitsNext, Visits}
+use Rattle.daide_event_loop.specs.Serving.{fresh, with_free_place, queued_again, last_words, parting, end_of, Admits, AsksForBot, accepted_at}
+use Rattle.daide_event_loop.specs.Served.{comes, connects, retires, unreached, sum_over_calls}
 
--- a number that is not zero is a successor
-one_fewer : (n : ℕ) → (n == 0) ≡ false → (m : ℕ) × (n ≡ suc m)
-one_fewer zero e = absurd (cc)
-one_fewer (suc m) e = (m, refl)
+-- ---- counts of places
+
+pub set_count : {X : Type 0} (p : X → Bool) (xs : List X) (i : ℕ) (x y : X) → slice_get xs i ≡ Some x →
+    count_by p (slice_set xs i y) + cond (p x) 1 0 ≡ count_by p xs + cond (p y) 1 0
+set_count p [] zero x y e = absurd (cc)
+set_count p [] (suc i) x y e = absurd (cc)
+set_count {X} p (one ∷ xs) zero x y e =
+    let same : cond (p one) 1 0 ≡ cond (p x) 1 0 = ap first e in
+    let before = sum_by-cons (λ (z : X). cond (p z) 1 0) one xs in
+    let after = sum_by-cons (λ (z : X). cond (p z) 1 0) y xs in
+    omega (arith, same, before, after)
+  where
+    first : Option X → ℕ
+    first None = 0
+    first (Some z) = cond (p z) 1 0
+set_count {X} p (one ∷ xs) (suc i) x y e =
+    let rest = set_count p xs i x y e in
+    let before = sum_by-cons (λ (z : X). cond (p z) 1 0) one xs in
+    let after = sum_by-cons (λ (z : X). cond (p z) 1 0) one (slice_set xs i y) in
+    omega (arith, rest, before, after)
+
+-- the first of a list counts or not
+pub count_first : {X : Type 0} (p : X → Bool) (x : X) (xs : List X) → count_by p (x ∷ xs) ≡ cond (p x) 1 0 + count_by p xs
+count_first {X} p x xs = sum_by-cons (λ (z : X). cond (p z) 1 0) x xs
+
+-- ---- sums over calls
 
 module _ {P : Type 0} where
   pub counted_append : (count : SystemCall P → ℕ) (xs ys : List (SystemCall P)) →
@@ -29,146 +58,318 @@ module _ {P : Type 0} where
       let rest = counted_append count xs ys in
       omega (arith, rest)
 
-  -- By this trace `accepted` grows by the bots accepted. Of the connects under way before and these, those no longer
-  -- under way completed or failed.
-  pub record Counts (answers : List (SystemCall P)) (old new : AdmissionCounters) : Type 0 where
-    pub came : old.accepted + sum_over_calls comes answers ≡ new.accepted
-    pub connected : old.connecting + sum_over_calls comes answers
-        ≡ new.connecting + sum_over_calls connects answers + sum_over_calls unreached answers
+  -- what an equal trace and its two parts add
+  pub parts_count : (count : SystemCall P → ℕ) (all xs ys : List (SystemCall P)) → all ≡ xs ++ ys →
+      sum_over_calls count all ≡ sum_over_calls count xs + sum_over_calls count ys
+  parts_count count all xs ys e = ap (sum_over_calls count) e ∙ counted_append count xs ys
 
-  pub counts_then : (xs ys : List (SystemCall P)) (a b c : AdmissionCounters) → Counts xs a b → Counts ys b c →
-      Counts (xs ++ ys) a c
-  counts_then xs ys a b c h k =
+  -- sessions that are shown add nothing to any count but that of shown ones
+  pub none_shown : (count : SystemCall P → ℕ) (shown : Bool) (places : List (SlabPlace (SessionView × QuotaPortsView P))) →
+      ((ports : P) (status : SessionStatus) → count (Shows ports status) ≡ 0) →
+      sum_over_calls count (shows_where shown places) ≡ 0
+  none_shown count false places silent = refl
+  none_shown count true [] silent = refl
+  none_shown count true (Free ∷ places) silent = none_shown count true places silent
+  none_shown count true (Kept ∷ places) silent = none_shown count true places silent
+  none_shown count true (Held now ∷ places) silent =
+      let one = silent now.1.ports (status_of now.0 now.1.bytes) in
+      let rest = none_shown count true places silent in
+      omega (arith, one, rest)
+
+  -- this counts nothing in a visit
+  pub record IsOfOpening (count : SystemCall P → ℕ) : Type 0 where
+    pub connects : (place : ℕ) (connect : Connect P) → count (Connects place connect) ≡ 0
+    pub turns : (place : ℕ) (before after : P) → count (BeginsTurn place before after) ≡ 0
+    pub rests : (place : ℕ) (ports : P) (rests : Bool) → count (Rests place ports rests) ≡ 0
+    pub retires : (place : ℕ) (ports : P) (end : SessionEnd) → count (Retires place ports end) ≡ 0
+    pub notifies : (notice : Notice) → count (Notifies notice) ≡ 0
+
+module _ {P : Type 0} (port_transition : P → PortCall → P → Type 0) (count : SystemCall P → ℕ) where
+  begin_none : ((place : ℕ) (before after : P) → count (BeginsTurn place before after) ≡ 0) → (left : Option ℕ) (place : ℕ)
+      (before after : P) → sum_over_calls count (beginning_where left place before after) ≡ 0
+  begin_none none None place before after = refl
+  begin_none none (Some turns) place before after = let one = none place before after in omega (arith, one)
+
+  -- the calls that begin turns add nothing, if one adds nothing
+  pub turns_none : ((place : ℕ) (before after : P) → count (BeginsTurn place before after) ≡ 0) → (n : ℕ)
+      (old : SlabView (QuotaPortsView P)) (place : ℕ) (answers : List (SystemCall P)) (new : SlabView (QuotaPortsView P)) →
+      TurnsInRow port_transition n old place answers new → sum_over_calls count answers ≡ 0
+  turns_none none zero old place answers new h = ap (sum_over_calls count) h.0
+  turns_none none (suc n) old place answers new h =
+      let all = parts_count count answers h.1 h.2 h.3 in
+      let before = turns_none none n old place h.1 h.0 h.4 in
+      let begins = h.6.begins in
+      let last : sum_over_calls count h.2 ≡ 0 =
+      ap (sum_over_calls count) begins.4.1 ∙ begin_none none begins.1.1.turns_left place begins.0.1.ports begins.1.1.ports in
+      omega (arith, all, before, last)
+
+  pub rests_none : ((place : ℕ) (ports : P) (rests : Bool) → count (Rests place ports rests) ≡ 0) → (moved : Bool) (place : ℕ)
+      (ports : P) (answers : List (SystemCall P)) (rests : Bool) → RestsBy moved place ports answers rests →
+      sum_over_calls count answers ≡ 0
+  rests_none none true place ports answers rests h = ap (sum_over_calls count) h.0
+  rests_none none false place ports answers rests h =
+      let all = ap (sum_over_calls count) h in
+      let one = none place ports rests in
+      omega (arith, all, one)
+
+  -- a parting adds what its last call adds
+  pub parting_count : ((notice : Notice) → count (Notifies notice) ≡ 0) → (place : ℕ) (ports : QuotaPortsView P) (end : SessionEnd) →
+      sum_over_calls count (parting place ports end) ≡ count (Retires place ports.ports end)
+  parting_count none place ports end = by (is_none ports.turns_left)
+    where
+      by : (spent : Bool) → sum_over_calls count (last_words spent ++ Retires place ports.ports end ∷ []) ≡ count (Retires place ports.ports end)
+      by true = let word = none TurnsSpent in omega (arith, word)
+      by false = omega arith
+
+  module _ (early : IsOfOpening count) where
+    leave_none : (closed : Bool) (now : SessionView × QuotaPortsView P) (old : ServiceView P) (place : ℕ)
+        (answers : List (SystemCall P)) (new : ServiceView P) → LeavesVisit closed now old place answers new →
+        sum_over_calls count answers ≡ 0
+    leave_none true now old place answers new h =
+        ap (sum_over_calls count) h.0 ∙ parting_count early.notifies place now.1 (end_of now)
+        ∙ early.retires place now.1.ports (end_of now)
+    leave_none false now old place answers new h =
+        rests_none early.rests now.1.made_progress place now.1.ports answers h.0 h.1
+
+    turned_none : (old : ServiceView P) (place turns : ℕ) (answers : List (SystemCall P)) (new : ServiceView P) →
+        TurnsAndLeaves port_transition old place turns answers new → sum_over_calls count answers ≡ 0
+    turned_none old place turns answers new h =
+        let all = parts_count count answers h.turning h.leaving h.asked in
+        let begun = turns_none early.turns turns old.slab place h.turning h.turned h.takes.made in
+        let left = leave_none (is_closed h.now.0) h.now (record old { slab = h.turned }) place h.leaving new h.leaves in
+        omega (arith, all, begun, left)
+
+    visit_none : (at : Option (SlabPlace (SessionView × QuotaPortsView P))) (old : ServiceView P) (place turns : ℕ) (answers : List (SystemCall P))
+        (new : ServiceView P) → VisitsBy port_transition at old place turns answers new → sum_over_calls count answers ≡ 0
+    visit_none None old place turns answers new h = ap (sum_over_calls count) h.1
+    visit_none (Some Free) old place turns answers new h = ap (sum_over_calls count) h.1
+    visit_none (Some Kept) old place turns answers new h =
+        let all = ap (sum_over_calls count) h.2 in
+        let one = early.connects place h.0 in
+        let rest = by h.0 h.1 h.3 in
+        omega (arith, all, one, rest)
+      where
+        by : (connect : Connect P) (told : List (SystemCall P)) → MeetsBy port_transition connect old place turns told new →
+            sum_over_calls count told ≡ 0
+        by (Ready ports) told m = turned_none (record old { slab = m.0 }) place turns told new m.2
+        by Failed told m =
+            let all = ap (sum_over_calls count) m.1 in
+            let word = early.notifies CannotReach in
+            omega (arith, all, word)
+        by Pending told m = ap (sum_over_calls count) m.1
+    visit_none (Some (Held now)) old place turns answers new h = turned_none old place turns answers new h
+
+    pub visits_none : (visited : List ℕ) (turns : ℕ) (old : ServiceView P) (answers : List (SystemCall P)) (new : ServiceView P) →
+        Visits port_transition visited turns old answers new → sum_over_calls count answers ≡ 0
+    visits_none [] turns old answers new h = ap (sum_over_calls count) h.1
+    visits_none (place ∷ earlier) turns old answers new h =
+        let all = parts_count count answers h.3 h.4 h.6 in
+        let before = visits_none earlier h.1 old h.3 h.0 h.7 in
+        let last = visit_none (slice_get h.0.slab.places place) (record h.0 { ready = h.8.ready }) place h.2 h.4 new h.8.visits in
+        omega (arith, all, before, last)
+
+-- ---- the counts of a run
+
+module _ {P : Type 0} where
+  -- what a trace adds: bots that were accepted; sessions that began, and those that were retired; connects that are
+  -- pending no more
+  pub record Counts (answers : List (SystemCall P)) (old new : ServiceView P) : Type 0 where
+    pub came : old.counters.accepted + sum_over_calls comes answers ≡ new.counters.accepted
+    pub held : sessions_in old.slab + sum_over_calls connects answers ≡ sessions_in new.slab + sum_over_calls retires answers
+    pub met : pending_in old.slab + sum_over_calls comes answers
+        ≡ pending_in new.slab + sum_over_calls connects answers + sum_over_calls unreached answers
+
+  pub counts_then : (all xs ys : List (SystemCall P)) (a b c : ServiceView P) → all ≡ xs ++ ys → Counts xs a b → Counts ys b c →
+      Counts all a c
+  counts_then all xs ys a b c e h k =
+      let came = parts_count comes all xs ys e in
+      let began = parts_count connects all xs ys e in
+      let ended = parts_count retires all xs ys e in
+      let lost = parts_count unreached all xs ys e in
       let one = h.came in
       let two = k.came in
-      let first = h.connected in
-      let second = k.connected in
+      let three = h.held in
+      let four = k.held in
+      let five = h.met in
+      let six = k.met in
       record {
-        came = rw (counted_append comes xs ys) (omega (arith, one, two));
-        connected = rw (counted_append comes xs ys, counted_append connects xs ys, counted_append unreached xs ys)
-            (omega (arith, first, second));
+        came = omega (arith, came, one, two);
+        held = omega (arith, began, ended, three, four);
+        met = omega (arith, came, began, lost, five, six);
       }
 
-  -- none of these calls accepts a bot or concerns a connect
-  record Silent (answers : List (SystemCall P)) : Type 0 where
-    came : sum_over_calls comes answers ≡ 0
-    joined : sum_over_calls connects answers ≡ 0
-    failed : sum_over_calls unreached answers ≡ 0
-
-  nothing_said : Silent []
-  nothing_said = record { came = refl; joined = refl; failed = refl }
-
-  silent_then : (xs ys : List (SystemCall P)) → Silent xs → Silent ys → Silent (xs ++ ys)
-  silent_then xs ys h k = record {
-    came = rw (counted_append comes xs ys, h.came, k.came) refl;
-    joined = rw (counted_append connects xs ys, h.joined, k.joined) refl;
-    failed = rw (counted_append unreached xs ys, h.failed, k.failed) refl;
+  -- nothing is counted in these calls, and the counts of the run are the same
+  pub same_counts : (answers : List (SystemCall P)) (old new : ServiceView P) → sum_over_calls comes answers ≡ 0 →
+      sum_over_calls connects answers ≡ 0 → sum_over_calls retires answers ≡ 0 → sum_over_calls unreached answers ≡ 0 →
+      new.counters.accepted ≡ old.counters.accepted → sessions_in new.slab ≡ sessions_in old.slab →
+      pending_in new.slab ≡ pending_in old.slab → Counts answers old new
+  same_counts answers old new a b c d e f g = record {
+    came = omega (arith, a, e);
+    held = omega (arith, b, c, f);
+    met = omega (arith, a, b, d, g);
   }
 
-  silent_counts : (answers : List (SystemCall P)) (counters : AdmissionCounters) → Silent answers → Counts answers counters counters
-  silent_counts answers counters h = record {
-    came = rw h.came (omega arith);
-    connected = rw (h.came, h.joined, h.failed) (omega arith);
-  }
+  -- ---- a poll
 
-  -- ---- the steps of a round
-
-  -- an order to stop accepting changes neither count
-  heeded_counts : (stops : Bool) (answers : List (SystemCall P)) (counters : AdmissionCounters) → Silent answers →
-      Counts answers counters (if stops then closed counters else counters)
-  heeded_counts true answers counters h = record {
-    came = rw h.came (omega arith);
-    connected = rw (h.came, h.joined, h.failed) (omega arith);
-  }
-  heeded_counts false answers counters h = silent_counts answers counters h
-
-  pub opening_counts : (orders : Orders) (places : List (SessionView × QuotaPortsView P)) (counters : AdmissionCounters) →
-      Counts (opening orders places) counters (heeding orders counters)
-  opening_counts orders places counters =
-      heeded_counts orders.stops_accepting (opening orders places) counters (record {
-        came = opening_none comes orders places refl (λ ports status. refl);
-        joined = opening_none connects orders places refl (λ ports status. refl);
-        failed = opening_none unreached orders places refl (λ ports status. refl);
-      })
-
-  -- reporting news and beginning turns accepts no bot
-  pub turns_count : (answers : List (SystemCall P)) (counters : AdmissionCounters) → OnlyTurns answers → Counts answers counters counters
-  turns_count answers counters h =
-      silent_counts answers counters (record {
-        came = none_counted comes answers (λ ports news. refl) (λ before after. refl) (λ ports. refl) h;
-        joined = none_counted connects answers (λ ports news. refl) (λ before after. refl) (λ ports. refl) h;
-        failed = none_counted unreached answers (λ ports news. refl) (λ before after. refl) (λ ports. refl) h;
-      })
-
-  pub admission_counts : (b : Bool) (old : AdmissionCounters) (answers : List (SystemCall P)) (new : AdmissionCounters) →
-      AdmitsWhere b old answers new → Counts answers old new
-  admission_counts true old answers new h =
-      subst (λ (l : List (SystemCall P)). Counts l old new) (sym h.1)
-      (subst (λ (t : AdmissionCounters). Counts (Accepts h.0 ∷ []) old t) (sym h.2) (of h.0))
+  pub opening_counts : (woken : List ℕ) (orders : Orders) (old : ServiceView P) →
+      Counts (opening woken orders old) old (polled woken orders old)
+  opening_counts woken orders old =
+      let shown = orders.shows_sessions in
+      same_counts (opening woken orders old) old (polled woken orders old)
+      (let rest = none_shown comes shown old.slab.places (λ ports status. refl) in omega (arith, rest))
+      (let rest = none_shown connects shown old.slab.places (λ ports status. refl) in omega (arith, rest))
+      (let rest = none_shown retires shown old.slab.places (λ ports status. refl) in omega (arith, rest))
+      (let rest = none_shown unreached shown old.slab.places (λ ports status. refl) in omega (arith, rest))
+      (by orders.stops_accepting) refl refl
     where
-      of : (came : Bool) → Counts (Accepts came ∷ []) old (come came old)
-      of true = record { came = refl; connected = omega arith }
-      of false = record { came = omega arith; connected = omega arith }
-  admission_counts false old answers new h =
+      by : (stops : Bool) → (if stops then closed old.counters else old.counters).accepted ≡ old.counters.accepted
+      by true = refl
+      by false = refl
+
+  -- ---- a bot is accepted
+
+  pub admission_counts : (old : ServiceView P) (answers : List (SystemCall P)) (new : ServiceView P) → Admits old answers new →
+      Counts answers old new
+  admission_counts old answers new (inr none) =
+      same_counts answers old new (ap (sum_over_calls comes) none.1) (ap (sum_over_calls connects) none.1)
+      (ap (sum_over_calls retires) none.1) (ap (sum_over_calls unreached) none.1)
+      (ap (λ (s : ServiceView P). s.counters.accepted) none.2) (ap (λ (s : ServiceView P). sessions_in s.slab) none.2)
+      (ap (λ (s : ServiceView P). pending_in s.slab) none.2)
+  admission_counts old answers new (inl asks) =
+      subst (λ (l : List (SystemCall P)). Counts l old new) (sym asks.asked)
+      (subst (λ (s : ServiceView P). Counts (Accepts asks.place asks.came ∷ []) old s) (sym asks.then_kept) (by asks.came))
+    where
+      by : (came : Bool) → Counts (Accepts asks.place came ∷ []) old (if came then accepted_at old asks.place else old)
+      by true =
+          let sessions = set_count is_held old.slab.places asks.place Free Kept asks.free in
+          let pending = set_count is_kept old.slab.places asks.place Free Kept asks.free in
+          record {
+            came = refl;
+            held = omega (arith, sessions);
+            met = omega (arith, pending);
+          }
+      by false = same_counts (Accepts asks.place false ∷ []) old old refl refl refl refl refl refl refl
+
+-- ---- a visit
+
+module _ {P : Type 0} (port_transition : P → PortCall → P → Type 0) where
+  -- a call on a session changes no count of places
+  changed_counts : (Kind : SessionView × QuotaPortsView P → SessionView × QuotaPortsView P → Type 0)
+      (old : SlabView (QuotaPortsView P)) (place : ℕ) (new : SlabView (QuotaPortsView P)) → ChangesAt Kind old place new →
+      (sessions_in new ≡ sessions_in old) × (pending_in new ≡ pending_in old)
+  changed_counts Kind old place new h =
+      let sessions = set_count is_held old.places place (Held h.0) (Held h.1) h.2 in
+      let pending = set_count is_kept old.places place (Held h.0) (Held h.1) h.2 in
+      (ap (λ (s : SlabView (QuotaPortsView P)). sessions_in s) h.3 ∙ omega (arith, sessions),
+      ap (λ (s : SlabView (QuotaPortsView P)). pending_in s) h.3 ∙ omega (arith, pending))
+
+  turns_counts : (n : ℕ) (old : SlabView (QuotaPortsView P)) (place : ℕ) (answers : List (SystemCall P))
+      (new : SlabView (QuotaPortsView P)) → TurnsInRow port_transition n old place answers new →
+      (sessions_in new ≡ sessions_in old) × (pending_in new ≡ pending_in old)
+  turns_counts zero old place answers new h =
+      (ap (λ (s : SlabView (QuotaPortsView P)). sessions_in s) h.1, ap (λ (s : SlabView (QuotaPortsView P)). pending_in s) h.1)
+  turns_counts (suc n) old place answers new h =
+      let before = turns_counts n old place h.1 h.0 h.4 in
+      let begun = changed_counts (OpensTurn port_transition place h.2) h.0 place h.6.begun h.6.begins in
+      let run = changed_counts (IsTurned (Meters port_transition)) h.6.begun place new h.6.runs in
+      (run.0 ∙ begun.0 ∙ before.0, run.1 ∙ begun.1 ∙ before.1)
+
+  leave_counts : (closed : Bool) (now : SessionView × QuotaPortsView P) (old : ServiceView P) (place : ℕ)
+      (answers : List (SystemCall P)) (new : ServiceView P) → IsAt old.slab place (Held now) →
+      LeavesVisit closed now old place answers new → Counts answers old new
+  leave_counts true now old place answers new at h =
+      let end = end_of now in
+      let sessions = set_count is_held old.slab.places place (Held now) Free at in
+      let pending = set_count is_kept old.slab.places place (Held now) Free at in
+      let a = parting_count port_transition comes (λ notice. refl) place now.1 end in
+      let b = parting_count port_transition connects (λ notice. refl) place now.1 end in
+      let c = parting_count port_transition retires (λ notice. refl) place now.1 end in
+      let d = parting_count port_transition unreached (λ notice. refl) place now.1 end in
       subst (λ (l : List (SystemCall P)). Counts l old new) (sym h.0)
-      (subst (λ (t : AdmissionCounters). Counts [] old t) (sym h.1) (silent_counts [] old nothing_said))
-
-  -- one connect that was under way completes or fails
-  one_met : (answers : List (SystemCall P)) (old : AdmissionCounters) → (old.connecting == 0) ≡ false →
-      sum_over_calls comes answers ≡ 0 → sum_over_calls connects answers + sum_over_calls unreached answers ≡ 1 →
-      Counts answers old (arrived old)
-  one_met answers old e none one =
-      let fewer = one_fewer old.connecting e in
-      let is = fewer.1 in
-      record {
-        came = rw none (omega arith);
-        connected = rw none (omega (arith, is, one));
-      }
-
-  pub meeting_counts : (b : Bool) (old : HubView (QuotaPortsView P)) (counters : AdmissionCounters) (answers : List (SystemCall P))
-      (new : HubView (QuotaPortsView P)) (new_counters : AdmissionCounters) → (counters.connecting == 0) ≡ b →
-      MeetsWhere b old counters answers new new_counters → Counts answers counters new_counters
-  meeting_counts true old counters answers new new_counters e m =
-      subst (λ (l : List (SystemCall P)). Counts l counters new_counters) (sym m.0)
-      (subst (λ (t : AdmissionCounters). Counts [] counters t) (sym m.2) (silent_counts [] counters nothing_said))
-  meeting_counts false old counters answers new new_counters e m =
-      subst (λ (l : List (SystemCall P)). Counts l counters new_counters) (sym m.2) (by m.0 m.1 m.3)
+      (subst (λ (s : ServiceView P). Counts (parting place now.1 end) old s) (sym h.1) (record {
+        came = omega (arith, a);
+        held = omega (arith, b, c, sessions);
+        met = omega (arith, a, b, d, pending);
+      }))
+  leave_counts false now old place answers new at h =
+      same_counts answers old new
+      (rests_none port_transition comes (λ place ports rests. refl) now.1.made_progress place now.1.ports answers h.0 h.1)
+      (rests_none port_transition connects (λ place ports rests. refl) now.1.made_progress place now.1.ports answers h.0 h.1)
+      (rests_none port_transition retires (λ place ports rests. refl) now.1.made_progress place now.1.ports answers h.0 h.1)
+      (rests_none port_transition unreached (λ place ports rests. refl) now.1.made_progress place now.1.ports answers h.0 h.1)
+      (ap (λ (s : ServiceView P). s.counters.accepted) h.2 ∙ (same h.0).0)
+      (ap (λ (s : ServiceView P). sessions_in s.slab) h.2 ∙ (same h.0).1)
+      (ap (λ (s : ServiceView P). pending_in s.slab) h.2 ∙ (same h.0).2)
     where
-      by : (connect : Connect P) (told : List (SystemCall P)) → MeetsBy connect old counters told new new_counters →
-          Counts (Connects connect ∷ told) counters new_counters
-      by (Ready ports) told m =
-          subst (λ (l : List (SystemCall P)). Counts (Connects (Ready ports) ∷ l) counters new_counters) (sym m.0)
-          (subst (λ (t : AdmissionCounters). Counts (Connects (Ready ports) ∷ []) counters t) (sym m.2)
-          (one_met (Connects (Ready ports) ∷ []) counters e refl refl))
-      by Failed told m =
-          subst (λ (l : List (SystemCall P)). Counts (Connects Failed ∷ l) counters new_counters) (sym m.0)
-          (subst (λ (t : AdmissionCounters). Counts (Connects Failed ∷ Notifies CannotReach ∷ []) counters t) (sym m.2)
-          (one_met (Connects Failed ∷ Notifies CannotReach ∷ []) counters e refl refl))
-      by Pending told m =
-          subst (λ (l : List (SystemCall P)). Counts (Connects Pending ∷ l) counters new_counters) (sym m.0)
-          (subst (λ (t : AdmissionCounters). Counts (Connects Pending ∷ []) counters t) (sym m.2)
-          (silent_counts (Connects Pending ∷ []) counters (record { came = refl; joined = refl; failed = refl })))
+      same : (rests : Bool) → ((if rests then old else queued_again old place).counters.accepted ≡ old.counters.accepted)
+          × (sessions_in (if rests then old else queued_again old place).slab ≡ sessions_in old.slab)
+          × (pending_in (if rests then old else queued_again old place).slab ≡ pending_in old.slab)
+      same true = (refl, refl, refl)
+      same false = (refl, refl, refl)
 
-  silent_words : (b : Bool) → Silent (last_words b)
-  silent_words true = record { came = refl; joined = refl; failed = refl }
-  silent_words false = nothing_said
+  turned_counts : (old : ServiceView P) (place turns : ℕ) (answers : List (SystemCall P)) (new : ServiceView P) →
+      TurnsAndLeaves port_transition old place turns answers new → Counts answers old new
+  turned_counts old place turns answers new h =
+      let mid : ServiceView P = record old { slab = h.turned } in
+      let made = h.takes.made in
+      let same = turns_counts turns old.slab place h.turning h.turned made in
+      counts_then answers h.turning h.leaving old mid new h.asked
+      (same_counts h.turning old mid
+      (turns_none port_transition comes (λ place before after. refl) turns old.slab place h.turning h.turned made)
+      (turns_none port_transition connects (λ place before after. refl) turns old.slab place h.turning h.turned made)
+      (turns_none port_transition retires (λ place before after. refl) turns old.slab place h.turning h.turned made)
+      (turns_none port_transition unreached (λ place before after. refl) turns old.slab place h.turning h.turned made)
+      refl same.0 same.1)
+      (leave_counts (is_closed h.now.0) h.now mid place h.leaving new h.there h.leaves)
 
-  silent_farewell : (b : Bool) (place : SessionView × QuotaPortsView P) → Silent (retirement_where b place)
-  silent_farewell true place =
-      silent_then (last_words (is_none place.1.turns_left)) (Retires place.1.ports (end_of place) ∷ [])
-      (silent_words (is_none place.1.turns_left)) (record { came = refl; joined = refl; failed = refl })
-  silent_farewell false place = nothing_said
+  pub visit_counts : (at : Option (SlabPlace (SessionView × QuotaPortsView P))) (old : ServiceView P) (place turns : ℕ)
+      (answers : List (SystemCall P)) (new : ServiceView P) → slice_get old.slab.places place ≡ at →
+      VisitsBy port_transition at old place turns answers new → Counts answers old new
+  visit_counts None old place turns answers new there h =
+      subst (λ (l : List (SystemCall P)). Counts l old new) (sym h.1)
+      (subst (λ (s : ServiceView P). Counts [] old s) (sym h.2) (same_counts [] old old refl refl refl refl refl refl refl))
+  visit_counts (Some Free) old place turns answers new there h =
+      subst (λ (l : List (SystemCall P)). Counts l old new) (sym h.1)
+      (subst (λ (s : ServiceView P). Counts [] old s) (sym h.2) (same_counts [] old old refl refl refl refl refl refl refl))
+  visit_counts (Some Kept) old place turns answers new there h = by h.0 h.1 h.2 h.3
+    where
+      by : (connect : Connect P) (told : List (SystemCall P)) → answers ≡ Connects place connect ∷ told →
+          MeetsBy port_transition connect old place turns told new → Counts answers old new
+      by (Ready ports) told e m =
+          let mid : ServiceView P = record old { slab = m.0 } in
+          let opens = m.1 in
+          let sessions = set_count is_held old.slab.places place Kept (Held (opens.0, fresh ports old.counters.turns)) there in
+          let pending = set_count is_kept old.slab.places place Kept (Held (opens.0, fresh ports old.counters.turns)) there in
+          let now = ap (λ (s : SlabView (QuotaPortsView P)). sessions_in s) opens.2 in
+          let left = ap (λ (s : SlabView (QuotaPortsView P)). pending_in s) opens.2 in
+          counts_then answers (Connects place (Ready ports) ∷ []) told old mid new e (record {
+            came = omega arith;
+            held = omega (arith, sessions, now);
+            met = omega (arith, pending, left);
+          }) (turned_counts mid place turns told new m.2)
+      by Failed told e m =
+          let sessions = set_count is_held old.slab.places place Kept Free there in
+          let pending = set_count is_kept old.slab.places place Kept Free there in
+          subst (λ (l : List (SystemCall P)). Counts l old new) (sym (e ∙ ap (λ (l : List (SystemCall P)). Connects place Failed ∷ l) m.1))
+          (subst (λ (s : ServiceView P). Counts (Connects place Failed ∷ Notifies CannotReach ∷ []) old s) (sym m.2) (record {
+            came = omega arith;
+            held = omega (arith, sessions);
+            met = omega (arith, pending);
+          }))
+      by Pending told e m =
+          subst (λ (l : List (SystemCall P)). Counts l old new) (sym (e ∙ ap (λ (l : List (SystemCall P)). Connects place Pending ∷ l) m.1))
+          (subst (λ (s : ServiceView P). Counts (Connects place Pending ∷ []) old s) (sym m.2)
+          (same_counts (Connects place Pending ∷ []) old old refl refl refl refl refl refl refl))
+  visit_counts (Some (Held now)) old place turns answers new there h = turned_counts old place turns answers new h
 
-  silent_farewells : (places : List (SessionView × QuotaPortsView P)) → Silent (retirements places)
-  silent_farewells [] = nothing_said
-  silent_farewells (place ∷ places) =
-      silent_then (retirements places) (retirement place) (silent_farewells places)
-      (silent_farewell (is_closed place.0) place)
-
-  pub removal_counts : (places : List (SessionView × QuotaPortsView P)) (counters : AdmissionCounters) → Counts (retirements places) counters counters
-  removal_counts places counters = silent_counts (retirements places) counters (silent_farewells places)
-
-  pub wait_counts : (made_progress : Bool) (counters : AdmissionCounters) → Counts (wait_where made_progress) counters counters
-  wait_counts true counters = silent_counts [] counters nothing_said
-  wait_counts false counters =
-      silent_counts (wait_where false) counters (record { came = refl; joined = refl; failed = refl })
+  pub visits_counts : (visited : List ℕ) (turns : ℕ) (old : ServiceView P) (answers : List (SystemCall P)) (new : ServiceView P) →
+      Visits port_transition visited turns old answers new → Counts answers old new
+  visits_counts [] turns old answers new h =
+      subst (λ (l : List (SystemCall P)). Counts l old new) (sym h.1)
+      (subst (λ (s : ServiceView P). Counts [] old s) (sym h.2) (same_counts [] old old refl refl refl refl refl refl refl))
+  visits_counts (place ∷ earlier) turns old answers new h =
+      let mid : ServiceView P = record h.0 { ready = h.8.ready } in
+      let before = visits_counts earlier h.1 old h.3 h.0 h.7 in
+      counts_then answers h.3 h.4 old mid new h.6
+      (record { came = before.came; held = before.held; met = before.met })
+      (visit_counts (slice_get mid.slab.places place) mid place h.2 h.4 new refl h.8.visits)

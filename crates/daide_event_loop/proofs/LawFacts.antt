@@ -1,8 +1,8 @@
 -- Each law of `laws`, used once at small values. Each fact takes only the law, so that a weaker law does not check.
-use Rattle.std.proofs.Common.{◌≡◌, ℕ, ◌+◌, ◌<◌, ⊎_elim, ◌++◌, true, false, List, [], ◌∷◌, length, refl, sym, ◌∙◌, ap, subst, arith, ◌⊎◌, inl, inr}
-use Rattle.std.specs.Prelude.{is_none, min, Contains, All}
+use Rattle.std.proofs.Common.{◌≡◌, ℕ, ◌+◌, ◌<◌, ◌≤◌, ⊎_elim, ◌++◌, true, false, List, [], ◌∷◌, length, refl, sym, ◌∙◌, ap, subst, arith, ◌⊎◌, inl, inr}
+use Rattle.std.specs.Prelude.{is_none, min, Contains, All, Option, Some, None, IfSome, slice_get}
+use Rattle.std.specs.List.{list_all}
 use Rattle.std.proofs.lemmas.List.Elements.{All-nil, All-cons, All-contains}
-use Rattle.std.proofs.lemmas.List.Elements.{Contains-append_right}
 use Rattle.daide_frame.specs.declared.side.Side.{Side}
 use Rattle.daide_frame.specs.declared.side.Side.TheVariants.{Bot, Server}
 use Rattle.daide_protocol.specs.Wires.{SessionView, room_of}
@@ -13,17 +13,22 @@ use Rattle.daide_io.specs.declared.system.Orders.{Orders}
 use Rattle.daide_io.specs.declared.system.SessionEnd.{SessionEnd}
 use Rattle.daide_io.specs.declared.system.SessionStatus.{SessionStatus}
 use Rattle.daide_io.specs.Ports.{PortCall, TurnBegins, Clock, Pulled, Offered, EvolvesBy, taken}
-use Rattle.daide_io.specs.System.{SystemCall, Begins, Shows, ReportsNews, BeginsTurn, Watches, Accepts, Waits, no_orders}
+use Rattle.daide_io.specs.System.{SystemCall, Polls, Shows, Accepts, Rests, last_about, no_orders}
+use Rattle.daide_io.specs.ReadyQueue.{is_queued}
+use Rattle.daide_driver.specs.declared.place.SlabPlace.{SlabPlace}
+use Rattle.daide_driver.specs.declared.place.SlabPlace.TheVariants.{Held}
+use Rattle.daide_driver.specs.Slab.{IsAt, is_free_place}
 use Rattle.daide_settings.specs.declared.settings.Settings.{Settings}
 use Rattle.daide_driver.specs.Hub.{IsBegun, IsTurned}
 use Rattle.daide_event_loop.specs.QuotaPorts.{QuotaPortsView, Meters, progress_by, is_gain, is_loss}
 use Rattle.daide_event_loop.specs.Served.{SessionsAreServed, OrdersAreHeeded, MovesAreAnswered, TurnsAreCounted}
 use Rattle.daide_event_loop.specs.Served.{comes, sum_over_calls, retires, unreached}
 use Rattle.daide_event_loop.specs.Served.{run_limits, IsServed, IsEndOf}
-use Rattle.daide_event_loop.specs.Serving.{ServiceView, may_accept, Round, Rounds, fresh, initial_service, is_done}
+use Rattle.daide_event_loop.specs.Serving.{ServiceView, Round, Rounds, fresh, initial_service, is_done, polled, sessions_in, pending_in}
 use Rattle.daide_settings.specs.BotsInAll.{bots_in_all}
 use Rattle.daide_event_loop.specs.Independence.{SessionsAreIndependent, HaveSameRules, results_of, Received, Handed}
-use Rattle.daide_event_loop.specs.Waiting.{RunsAreIdleAtWaits, IsIdleAtWait, MakesNoProgress}
+use Rattle.daide_event_loop.specs.Waiting.{RestingSessionsAreIdle, IsAtRest, MakesNoProgress}
+use Rattle.daide_event_loop.specs.Fairness.{RoundsAreShort, ReadyPlacesAdvance, turn_calls}
 
 module _ {P : Type 0} (port_transition : P → PortCall → P → Type 0) where
   -- with two turns the third to begin is beyond the quota, and the second is not
@@ -44,9 +49,9 @@ module _ {P : Type 0} (port_transition : P → PortCall → P → Type 0) where
   still law old mid new begins turn is =
       law old mid new begins turn ∙ ap (λ (answers : List PortCall). progress_by answers false) is
 
-  -- after one round that left no session and no connect, each accepted bot was retired, or its server was unreachable
+  -- after one round that left no session and no pending connect, each accepted bot was retired, or its server was unreachable
   one_round : SessionsAreServed port_transition → (settings : Settings) (answers : List (SystemCall P)) (run : ServiceView P) →
-      Rounds port_transition 1 (initial_service settings) answers run → run.counters.connecting ≡ 0 → length run.hub.places ≡ 0 →
+      Rounds port_transition 1 (initial_service settings) answers run → pending_in run.slab ≡ 0 → sessions_in run.slab ≡ 0 →
       (run.counters.accepted ≡ sum_over_calls comes answers)
       × (sum_over_calls comes answers ≡ sum_over_calls retires answers + sum_over_calls unreached answers)
   one_round law settings answers run rounds none empty =
@@ -66,34 +71,60 @@ module _ {P : Type 0} (port_transition : P → PortCall → P → Type 0) where
 
   -- a run that is told to stop in its first round is done after it, if nothing came before
   stopped_at_once : OrdersAreHeeded port_transition → (settings : Settings) (run : ServiceView P) →
-      Rounds port_transition 1 (initial_service settings) (Begins stop ∷ []) run → run.counters.connecting ≡ 0 →
-      length run.hub.places ≡ 0 → is_done run ≡ true
-  stopped_at_once law settings run rounds none empty =
-      (law settings 1 (Begins stop ∷ []) run rounds).ends (omega arith) ∙ rw (none, empty) refl
+      Rounds port_transition 1 (initial_service settings) (Polls true [] stop ∷ []) run →
+      list_all is_free_place run.slab.places ≡ true → is_done run ≡ true
+  stopped_at_once law settings run rounds free =
+      (law settings 1 (Polls true [] stop ∷ []) run rounds).ends (omega arith) ∙ free
 
   -- no run calls accept after it
   no_bot_after_a_stop : OrdersAreHeeded port_transition → (settings : Settings) (n : ℕ) (run : ServiceView P) →
-      Rounds port_transition n (initial_service settings) (Begins stop ∷ Waits ∷ Begins no_orders ∷ Accepts false ∷ []) run → ⊥
+      Rounds port_transition n (initial_service settings) (Polls true [] stop ∷ Polls true [] no_orders ∷ Accepts 0 false ∷ []) run → ⊥
   no_bot_after_a_stop law settings n run rounds =
-      let none = (law settings n (Begins stop ∷ Waits ∷ Begins no_orders ∷ Accepts false ∷ []) run rounds).stops.0 (omega arith) in
+      let none = (law settings n (Polls true [] stop ∷ Polls true [] no_orders ∷ Accepts 0 false ∷ []) run rounds).stops.0 (omega arith) in
       absurd (omega (arith, none))
 
   -- an order to show sessions does not stop the run
   goes_on_after_a_show : OrdersAreHeeded port_transition → (settings : Settings) (n : ℕ) (run : ServiceView P) →
-      Rounds port_transition n (initial_service settings) (Begins show ∷ Accepts false ∷ Waits ∷ []) run →
+      Rounds port_transition n (initial_service settings) (Polls true [] show ∷ Accepts 0 false ∷ []) run →
       run.counters.sessions ≡ bots_in_all settings
   goes_on_after_a_show law settings n run rounds =
-      (law settings n (Begins show ∷ Accepts false ∷ Waits ∷ []) run rounds).goes_on refl
+      (law settings n (Polls true [] show ∷ Accepts 0 false ∷ []) run rounds).goes_on refl
 
   -- no run shows a session without an order
   not_shown_unasked : OrdersAreHeeded port_transition → (settings : Settings) (n : ℕ) (run : ServiceView P) (ports : P)
       (status : SessionStatus) →
-      Rounds port_transition n (initial_service settings) (Begins no_orders ∷ Shows ports status ∷ Waits ∷ []) run → ⊥
+      Rounds port_transition n (initial_service settings) (Polls true [] no_orders ∷ Shows ports status ∷ []) run → ⊥
   not_shown_unasked law settings n run ports status rounds =
-      let none = (law settings n (Begins no_orders ∷ Shows ports status ∷ Waits ∷ []) run rounds).shows refl in
+      let none = (law settings n (Polls true [] no_orders ∷ Shows ports status ∷ []) run rounds).shows refl in
       absurd (omega (arith, none))
 
--- ---- a wait
+  -- ---- fairness
+
+  -- in no round do 33 turns begin
+  no_more_turns : RoundsAreShort port_transition → (old new : ServiceView P) (answers : List (SystemCall P)) →
+      Round port_transition old answers new → sum_over_calls turn_calls answers ≡ 33 → ⊥
+  no_more_turns law old new answers round many =
+      let short = law old new answers round in
+      absurd (omega (arith, short, many))
+
+  -- the third of the places that were at rest is visited in the round, and so is the first of those that had turns
+  third_is_visited : ReadyPlacesAdvance port_transition → (old new : ServiceView P) (answers : List (SystemCall P))
+      (round : Round port_transition old answers new) (place : ℕ) →
+      slice_get (polled round.woken round.orders old).ready.fresh 2 ≡ Some place → Contains round.visits.visited place
+  third_is_visited law old new answers round place there =
+      ⊎_elim (λ (c : Contains round.visits.visited place). c)
+      (λ (l : (left : ℕ) × (left + 3 ≤ 2) × (slice_get new.ready.fresh left ≡ Some place)). let less = l.1 in absurd (omega (arith, less)))
+      ((law old new answers round place 2).fresh there)
+
+  first_is_visited : ReadyPlacesAdvance port_transition → (old new : ServiceView P) (answers : List (SystemCall P))
+      (round : Round port_transition old answers new) (place : ℕ) →
+      slice_get (polled round.woken round.orders old).ready.moving 0 ≡ Some place → Contains round.visits.visited place
+  first_is_visited law old new answers round place there =
+      ⊎_elim (λ (c : Contains round.visits.visited place). c)
+      (λ (l : (left : ℕ) × (left < 0) × (slice_get new.ready.moving left ≡ Some place)). let less = l.1 in absurd (omega (arith, less)))
+      ((law old new answers round place 0).moving there)
+
+-- ---- rest
 
 -- ports each of whose pulls returns a byte
 abbrev Gives : PortCall → Type 0
@@ -110,48 +141,30 @@ module _ {P : Type 0} where
   each_gives [] old new h = All-nil Gives
   each_gives (call ∷ calls) old new h = All-cons Gives call calls h.1 (each_gives calls h.0 new h.2)
 
-  -- over such ports a first round does not wait while a session has room
-  no_wait_with_room : RunsAreIdleAtWaits AlwaysGives → (settings : Settings) (round : List (SystemCall P))
-      (run : ServiceView P) (place : SessionView × QuotaPortsView P) →
-      is_done (initial_service {P = P} settings) ≡ false →
-      Round AlwaysGives (initial_service settings) (round ++ Waits ∷ []) run → Contains run.hub.places place →
-      (side : Side) → 0 < room_of place.0 side → ⊥
-  no_wait_with_room law settings round run place ongoing waits there side room =
-      let all = law settings 0 [] round (initial_service settings) run (refl, refl) ongoing waits in
-      let idle = (All-contains (IsIdleAtWait AlwaysGives all.visits) run.hub.places place all.sessions there).idle in
+  -- over such ports a session with room is always in the queue
+  queued_with_room : RestingSessionsAreIdle AlwaysGives → (settings : Settings) (n : ℕ) (calls : List (SystemCall P))
+      (run : ServiceView P) (place : ℕ) (now : SessionView × QuotaPortsView P) →
+      Rounds AlwaysGives n (initial_service settings) calls run → IsAt run.slab place (Held now) →
+      (side : Side) → 0 < room_of now.0 side → is_queued run.ready place ≡ false → ⊥
+  queued_with_room law settings n calls run place now rounds there side room absent =
+      let rests = law settings n calls run rounds place absent in
+      let idle = (subst (λ (o : Option (SlabPlace (SessionView × QuotaPortsView P))). IfSome o (IsAtRest AlwaysGives calls place)) there rests).0 in
       let pulled = idle.pulled side room in
-      let call = Pulled side (min (room_of place.0 side) 512) pulled.0 pulled.1 in
-      let gives = each_gives idle.turn idle.begun place.1.ports idle.evolves in
+      let call = Pulled side (min (room_of now.0 side) 512) pulled.0 pulled.1 in
+      let gives = each_gives idle.turn idle.begun now.1.ports idle.evolves in
       let some = ap is_gain (All-contains Gives idle.turn call gives pulled.2) in
       ⊎_elim (λ (e : pulled.0 ≡ Idle). let none = ap is_gain e in absurd (cc))
       (λ (e : pulled.0 ≡ Got 0). let none = ap is_gain e in absurd (cc))
       (All-contains MakesNoProgress idle.turn call idle.still pulled.2)
 
-  -- in a first round that waits, the wait watches the ports of each session that is left: the system reported no news for
-  -- them, or it was to watch them after a turn
-  watched_at_once : (transition : P → PortCall → P → Type 0) → RunsAreIdleAtWaits transition → (settings : Settings)
-      (round : List (SystemCall P)) (run : ServiceView P) (place : SessionView × QuotaPortsView P) →
-      is_done (initial_service {P = P} settings) ≡ false →
-      Round transition (initial_service settings) (round ++ Waits ∷ []) run → Contains run.hub.places place →
-      Contains round (ReportsNews place.1.ports false) ⊎ Contains round (Watches place.1.ports)
-  watched_at_once transition law settings round run place ongoing waits there =
-      let all = law settings 0 [] round (initial_service settings) run (refl, refl) ongoing waits in
-      let own = All-contains (IsIdleAtWait transition all.visits) run.hub.places place all.sessions there in
-      let within : (x : SystemCall P) → Contains all.visits x → Contains round x =
-      λ x c. subst (λ (l : List (SystemCall P)). Contains l x) (sym all.parts) (Contains-append_right all.early all.visits x c) in
-      ⊎_elim
-      (λ (turned : Contains all.visits (BeginsTurn own.idle.ports own.idle.begun) × Contains all.visits (Watches place.1.ports)).
-      inr (within (Watches place.1.ports) turned.1))
-      (λ (none : Contains all.visits (ReportsNews place.1.ports false)). inl (within (ReportsNews place.1.ports false) none))
-      own.asked
-
-  -- a first round that waits asked for a bot, and none came
-  asked_for_a_bot : (transition : P → PortCall → P → Type 0) → RunsAreIdleAtWaits transition → (settings : Settings)
-      (round : List (SystemCall P)) (run : ServiceView P) → is_done (initial_service {P = P} settings) ≡ false →
-      Round transition (initial_service settings) (round ++ Waits ∷ []) run →
-      may_accept run.counters (length run.hub.places) ≡ true → Contains round (Accepts false)
-  asked_for_a_bot transition law settings round run ongoing waits may =
-      (law settings 0 [] round (initial_service settings) run (refl, refl) ongoing waits).bots may
+  -- a session that is not in the queue was to rest with the ports that it has, and nothing came for its place since
+  rests_as_it_is : (transition : P → PortCall → P → Type 0) → RestingSessionsAreIdle transition → (settings : Settings) (n : ℕ)
+      (calls : List (SystemCall P)) (run : ServiceView P) (place : ℕ) (now : SessionView × QuotaPortsView P) →
+      Rounds transition n (initial_service settings) calls run → IsAt run.slab place (Held now) →
+      is_queued run.ready place ≡ false → last_about place None calls ≡ Some (Rests place now.1.ports true)
+  rests_as_it_is transition law settings n calls run place now rounds there absent =
+      (subst (λ (o : Option (SlabPlace (SessionView × QuotaPortsView P))). IfSome o (IsAtRest transition calls place)) there
+      (law settings n calls run rounds place absent)).1
 
 -- an expired timer, a stop, a byte, an end and a failure are progress
 progress : (MakesNoProgress (Clock ImTimeIsOver) → ⊥) × (MakesNoProgress (Clock StopIsRequested) → ⊥)

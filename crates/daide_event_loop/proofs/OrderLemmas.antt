@@ -1,151 +1,71 @@
 -- The operator's orders, round by round.
-use Rattle.std.proofs.Common.{◌≡◌, ℕ, ◌+◌, ◌<◌, ◌≤◌, Bool, true, false, List, [], ◌∷◌, ◌++◌, length}
+use Rattle.std.proofs.Common.{◌≡◌, ℕ, ◌+◌, ◌<◌, ◌≤◌, Bool, true, false, List, [], ◌∷◌, ◌++◌, Option, Some, None, inl, inr}
 use Rattle.std.proofs.Common.{refl, sym, ap, ◌∙◌, subst, arith}
-use Rattle.std.specs.Prelude.{◌==◌, ◌&&◌, ◌||◌, is_none, if◌then◌else◌}
-use Rattle.daide_frame.proofs.ListLemmas.{ltb_no, eqb_same}
+use Rattle.std.specs.Prelude.{◌==◌, ◌&&◌, if◌then◌else◌, slice_get}
+use Rattle.std.specs.List.{list_all}
+use Rattle.std.proofs.lemmas.Bool.{eqb-false}
+use Rattle.daide_frame.proofs.ListLemmas.{eqb_same}
 use Rattle.daide_protocol.specs.Wires.{SessionView, is_closed}
-use Rattle.daide_driver.specs.Hub.{HubView}
 use Rattle.daide_settings.specs.declared.settings.Settings.{Settings}
 use Rattle.daide_io.specs.Ports.{PortCall}
 use Rattle.daide_io.specs.declared.system.Connect.{Connect}
 use Rattle.daide_io.specs.declared.system.Connect.TheVariants.{Ready, Failed, Pending}
-use Rattle.daide_io.specs.declared.system.Notice.{Notice}
-use Rattle.daide_io.specs.declared.system.Notice.TheVariants.{CannotReach, TurnsSpent}
 use Rattle.daide_io.specs.declared.system.Orders.{Orders}
-use Rattle.daide_io.specs.declared.system.SessionEnd.{SessionEnd}
-use Rattle.daide_io.specs.System.{SystemCall, ReportsNews, BeginsTurn, Watches, Accepts, Connects}
-use Rattle.daide_io.specs.System.{Retires, Notifies, Waits}
+use Rattle.daide_io.specs.System.{SystemCall, Accepts}
+use Rattle.daide_driver.specs.declared.place.SlabPlace.{SlabPlace}
+use Rattle.daide_driver.specs.declared.place.SlabPlace.TheVariants.{Free, Kept, Held}
+use Rattle.daide_driver.specs.Slab.{is_free_place}
 use Rattle.daide_event_loop.specs.declared.admission_counters.AdmissionCounters.{AdmissionCounters}
 use Rattle.daide_event_loop.specs.QuotaPorts.{QuotaPortsView}
-use Rattle.daide_event_loop.specs.Serving.{ServiceView, initial_service, may_accept, is_done, closed, heeding, opening}
+use Rattle.daide_event_loop.specs.Serving.{ServiceView, initial_service, is_done, closed, heeding, opening, polled, shows_where, have_all_come}
 use Rattle.daide_settings.specs.BotsInAll.{bots_in_all}
-use Rattle.daide_event_loop.specs.Serving.{come, shows_where, AdmitsWhere, MeetsWhere, MeetsBy, last_words, retirement_where}
-use Rattle.daide_event_loop.specs.Serving.{end_of, retirements, wait_where, any_progress, any_moved, Round}
+use Rattle.daide_event_loop.specs.Serving.{LeavesVisit, TurnsAndLeaves, MeetsBy, VisitsBy, Visits, with_free_place, queued_again, accepted_at, Admits, Round}
 use Rattle.daide_event_loop.specs.Served.{sum_over_calls, accept_calls, show_calls, orders_with, stop_orders, show_orders, HeedsStops, HeedsOrders}
-use Rattle.daide_event_loop.proofs.BeginningLemmas.{none_counted, none_shown, turns_only}
-use Rattle.daide_event_loop.proofs.CountLemmas.{counted_append}
+use Rattle.daide_event_loop.proofs.CountLemmas.{counted_append, parts_count, none_shown, IsOfOpening, visits_none}
 
--- ---- counts of the calls that a round begins with
+-- ---- counts of the calls that a round makes beside its visits
 
 module _ {P : Type 0} where
-  -- after the admission of a round this counts nothing
-  record IsOfOpening (count : SystemCall P → ℕ) : Type 0 where
-    news : (ports : P) (news : Bool) → count (ReportsNews ports news) ≡ 0
-    turns : (before after : P) → count (BeginsTurn before after) ≡ 0
-    watched : (ports : P) → count (Watches ports) ≡ 0
-    connects : (connect : Connect P) → count (Connects connect) ≡ 0
-    retires : (ports : P) (end : SessionEnd) → count (Retires ports end) ≡ 0
-    notifies : (notice : Notice) → count (Notifies notice) ≡ 0
-    waits : count Waits ≡ 0
-
-  accepts_early : IsOfOpening accept_calls
+  accepts_early : IsOfOpening {P = P} accept_calls
   accepts_early = record {
-    news = λ ports news. refl;
-    turns = λ before after. refl;
-    watched = λ ports. refl;
-    connects = λ connect. refl;
-    retires = λ ports end. refl;
+    connects = λ place connect. refl;
+    turns = λ place before after. refl;
+    rests = λ place ports rests. refl;
+    retires = λ place ports end. refl;
     notifies = λ notice. refl;
-    waits = refl;
   }
 
-  shows_early : IsOfOpening show_calls
+  shows_early : IsOfOpening {P = P} show_calls
   shows_early = record {
-    news = λ ports news. refl;
-    turns = λ before after. refl;
-    watched = λ ports. refl;
-    connects = λ connect. refl;
-    retires = λ ports end. refl;
+    connects = λ place connect. refl;
+    turns = λ place before after. refl;
+    rests = λ place ports rests. refl;
+    retires = λ place ports end. refl;
     notifies = λ notice. refl;
-    waits = refl;
   }
 
-  orders_early : (Has : Orders → Bool) → IsOfOpening (orders_with Has)
+  orders_early : (Has : Orders → Bool) → IsOfOpening {P = P} (orders_with Has)
   orders_early Has = record {
-    news = λ ports news. refl;
-    turns = λ before after. refl;
-    watched = λ ports. refl;
-    connects = λ connect. refl;
-    retires = λ ports end. refl;
+    connects = λ place connect. refl;
+    turns = λ place before after. refl;
+    rests = λ place ports rests. refl;
+    retires = λ place ports end. refl;
     notifies = λ notice. refl;
-    waits = refl;
   }
 
-  module _ (count : SystemCall P → ℕ) (early : IsOfOpening count) where
-    meeting_none : (none : Bool) (old : HubView (QuotaPortsView P)) (counters : AdmissionCounters)
-        (answers : List (SystemCall P)) (new : HubView (QuotaPortsView P)) (new_counters : AdmissionCounters) →
-        MeetsWhere none old counters answers new new_counters → sum_over_calls count answers ≡ 0
-    meeting_none true old counters answers new new_counters m = ap (sum_over_calls count) m.0
-    meeting_none false old counters answers new new_counters m = by m.0 m.1 m.2 m.3
-      where
-        by : (connect : Connect P) (told : List (SystemCall P)) → answers ≡ Connects connect ∷ told →
-            MeetsBy connect old counters told new new_counters → sum_over_calls count answers ≡ 0
-        by (Ready ports) told e m =
-            let all = ap (sum_over_calls count) e in
-            let rest = ap (sum_over_calls count) m.0 in
-            let own = early.connects (Ready ports) in
-            omega (arith, all, rest, own)
-        by Failed told e m =
-            let all = ap (sum_over_calls count) e in
-            let rest = ap (sum_over_calls count) m.0 in
-            let own = early.connects Failed in
-            let word = early.notifies CannotReach in
-            omega (arith, all, rest, own, word)
-        by Pending told e m =
-            let all = ap (sum_over_calls count) e in
-            let rest = ap (sum_over_calls count) m.0 in
-            let own = early.connects Pending in
-            omega (arith, all, rest, own)
+  -- what a round counts, it counts when it begins and when it accepts a bot
+  counted_early : (count : SystemCall P → ℕ) → IsOfOpening count → (port_transition : P → PortCall → P → Type 0)
+      (ys : List (SystemCall P)) (old new : ServiceView P) → (r : Round port_transition old ys new) →
+      sum_over_calls count ys ≡ sum_over_calls count (opening r.woken r.orders old) + sum_over_calls count r.admission
+  counted_early count early port_transition ys old new r =
+      let opens = opening r.woken r.orders old in
+      let all = parts_count count ys (opens ++ r.visiting) r.admission r.asked in
+      let one = counted_append count opens r.visiting in
+      let none = visits_none port_transition count early r.visits.visited r.visits.turns (polled r.woken r.orders old) r.visiting r.mid
+      r.visits.takes in
+      omega (arith, all, one, none)
 
-    removal_none : (places : List (SessionView × QuotaPortsView P)) → sum_over_calls count (retirements places) ≡ 0
-    removal_none [] = refl
-    removal_none (place ∷ places) =
-        let both = counted_append count (retirements places) (retirement_where (is_closed place.0) place) in
-        let rest = removal_none places in
-        let own = one (is_closed place.0) in
-        omega (arith, both, rest, own)
-      where
-        left : sum_over_calls count (Retires place.1.ports (end_of place) ∷ []) ≡ 0
-        left = let own = early.retires place.1.ports (end_of place) in omega (arith, own)
-
-        spoken : (told : Bool) → sum_over_calls count (last_words told ++ Retires place.1.ports (end_of place) ∷ []) ≡ 0
-        spoken true =
-            let word = early.notifies TurnsSpent in
-            let rest = left in
-            omega (arith, word, rest)
-        spoken false = left
-
-        one : (closed : Bool) → sum_over_calls count (retirement_where closed place) ≡ 0
-        one true = spoken (is_none place.1.turns_left)
-        one false = refl
-
-    wait_none : (made_progress : Bool) → sum_over_calls count (wait_where made_progress) ≡ 0
-    wait_none true = refl
-    wait_none false = let last = early.waits in omega (arith, last)
-
-    -- what a round counts, it counts when it begins and when it accepts a bot
-    counted_early : (port_transition : P → PortCall → P → Type 0) (ys : List (SystemCall P)) (old new : ServiceView P) →
-        (r : Round port_transition old ys new) →
-        sum_over_calls count ys ≡ sum_over_calls count (opening r.orders old.hub.places) + sum_over_calls count r.admission
-    counted_early port_transition ys old new r =
-        let opens = opening r.orders old.hub.places in
-        let made_progress = any_progress r.admission || any_progress r.meeting || any_moved r.turned.places || any_progress r.removal
-        || is_done new in
-        let last = wait_where made_progress in
-        let all = ap (sum_over_calls count) r.asked in
-        let one = counted_append count (opens ++ r.admission ++ r.meeting ++ r.beginnings ++ r.removal) last in
-        let two = counted_append count (opens ++ r.admission ++ r.meeting ++ r.beginnings) r.removal in
-        let three = counted_append count (opens ++ r.admission ++ r.meeting) r.beginnings in
-        let four = counted_append count (opens ++ r.admission) r.meeting in
-        let five = counted_append count opens r.admission in
-        let a = meeting_none (r.came.connecting == 0) old.hub r.came r.meeting r.connected new.counters r.finishes in
-        let b = none_counted count r.beginnings early.news early.turns early.watched
-        (turns_only port_transition (length r.connected.places) r.turns.0 r.connected r.beginnings r.turned r.turns.1) in
-        let c = ap (sum_over_calls count) r.removes.0 ∙ removal_none r.turned.places in
-        let d = wait_none made_progress in
-        omega (arith, all, one, two, three, four, five, a, b, c, d)
-
-  -- ---- after a stop
+-- ---- after a stop
 
   -- no order, so nothing to heed
   none_to_heed : (answers : List (SystemCall P)) → stop_orders answers ≡ 0 → HeedsStops answers
@@ -166,55 +86,76 @@ module _ {P : Type 0} where
   )
 
   -- an admission gives no order, and shows nothing
-  admission_none : (count : SystemCall P → ℕ) → ((came : Bool) → count (Accepts came) ≡ 0) → (may : Bool)
-      (old : AdmissionCounters) (answers : List (SystemCall P)) (new : AdmissionCounters) → AdmitsWhere may old answers new →
+  pub admission_none : (count : SystemCall P → ℕ) → ((place : ℕ) (came : Bool) → count (Accepts place came) ≡ 0) →
+      (old : ServiceView P) (answers : List (SystemCall P)) (new : ServiceView P) → Admits old answers new →
       sum_over_calls count answers ≡ 0
-  admission_none count none true old answers new h =
-      let all = ap (sum_over_calls count) h.1 in
-      let own = none h.0 in
+  admission_none count none old answers new (inl asks) =
+      let all = ap (sum_over_calls count) asks.asked in
+      let own = none asks.place asks.came in
       omega (arith, all, own)
-  admission_none count none false old answers new h = ap (sum_over_calls count) h.0
+  admission_none count none old answers new (inr rests) = ap (sum_over_calls count) rests.1
 
   -- if all bots came, accept is not called
-  admission_over : (count : ℕ) (old : AdmissionCounters) (answers : List (SystemCall P)) (new : AdmissionCounters) →
-      AdmitsWhere (may_accept old count) old answers new → old.sessions ≡ old.accepted →
-      (sum_over_calls accept_calls answers ≡ 0) × (new ≡ old)
-  admission_over count old answers new h all = by (may_accept old count) h none
-    where
-      none : may_accept old count ≡ false
-      none = rw (ltb_no old.accepted old.sessions (omega (arith, all))) refl
+  admission_over : (old : ServiceView P) (answers : List (SystemCall P)) (new : ServiceView P) → Admits old answers new →
+      old.counters.sessions ≡ old.counters.accepted → (sum_over_calls accept_calls answers ≡ 0) × (new ≡ old)
+  admission_over old answers new (inl asks) all =
+      absurd (eqb-false old.counters.accepted old.counters.sessions asks.due (sym all))
+  admission_over old answers new (inr rests) all = (ap (sum_over_calls accept_calls) rests.1, rests.2)
 
-      by : (may : Bool) → AdmitsWhere may old answers new → may ≡ false →
-          (sum_over_calls accept_calls answers ≡ 0) × (new ≡ old)
-      by true h e = absurd (cc)
-      by false h e = (ap (sum_over_calls accept_calls) h.0, h.1)
-
-  -- the limit of bots in all is the one after the orders
-  admission_limit : (may : Bool) (old : AdmissionCounters) (answers : List (SystemCall P)) (new : AdmissionCounters) →
-      AdmitsWhere may old answers new → new.sessions ≡ old.sessions
-  admission_limit true old answers new h = ap (λ (c : AdmissionCounters). c.sessions) h.2 ∙ of h.0
+  -- the limit of bots in all is the one after the orders, and is not exceeded
+  admission_limit : (old : ServiceView P) (answers : List (SystemCall P)) (new : ServiceView P) → Admits old answers new →
+      old.counters.accepted ≤ old.counters.sessions →
+      (new.counters.sessions ≡ old.counters.sessions) × (new.counters.accepted ≤ new.counters.sessions)
+  admission_limit old answers new (inl asks) within =
+      subst (λ (s : ServiceView P). (s.counters.sessions ≡ old.counters.sessions) × (s.counters.accepted ≤ s.counters.sessions))
+      (sym asks.then_kept) (by asks.came)
     where
-      of : (came : Bool) → (come came old).sessions ≡ old.sessions
-      of true = refl
-      of false = refl
-  admission_limit false old answers new h = ap (λ (c : AdmissionCounters). c.sessions) h.1
+      by : (came : Bool) →
+          ((if came then accepted_at old asks.place else old).counters.sessions ≡ old.counters.sessions)
+          × ((if came then accepted_at old asks.place else old).counters.accepted
+          ≤ (if came then accepted_at old asks.place else old).counters.sessions)
+      by true = let apart = eqb-false old.counters.accepted old.counters.sessions asks.due in (refl, omega (arith, within, apart))
+      by false = (refl, within)
+  admission_limit old answers new (inr rests) within =
+      subst (λ (s : ServiceView P). (s.counters.sessions ≡ old.counters.sessions) × (s.counters.accepted ≤ s.counters.sessions))
+      (sym rests.2) (refl, within)
 
-  meeting_limit : (none : Bool) (old : HubView (QuotaPortsView P)) (counters : AdmissionCounters)
-      (answers : List (SystemCall P)) (new : HubView (QuotaPortsView P)) (new_counters : AdmissionCounters) →
-      MeetsWhere none old counters answers new new_counters →
-      (new_counters.sessions ≡ counters.sessions) × (new_counters.accepted ≡ counters.accepted)
-  meeting_limit true old counters answers new new_counters m =
-      (ap (λ (c : AdmissionCounters). c.sessions) m.2, ap (λ (c : AdmissionCounters). c.accepted) m.2)
-  meeting_limit false old counters answers new new_counters m = by m.0 m.1 m.3
+-- visits change no counter
+module _ {P : Type 0} (port_transition : P → PortCall → P → Type 0) where
+  leave_counters : (closed : Bool) (now : SessionView × QuotaPortsView P) (old : ServiceView P) (place : ℕ)
+      (answers : List (SystemCall P)) (new : ServiceView P) → LeavesVisit closed now old place answers new → new.counters ≡ old.counters
+  leave_counters true now old place answers new h = ap (λ (s : ServiceView P). s.counters) h.1
+  leave_counters false now old place answers new h = ap (λ (s : ServiceView P). s.counters) h.2 ∙ by h.0
     where
-      by : (connect : Connect P) (told : List (SystemCall P)) → MeetsBy connect old counters told new new_counters →
-          (new_counters.sessions ≡ counters.sessions) × (new_counters.accepted ≡ counters.accepted)
-      by (Ready ports) told m =
-          (ap (λ (c : AdmissionCounters). c.sessions) m.2, ap (λ (c : AdmissionCounters). c.accepted) m.2)
-      by Failed told m =
-          (ap (λ (c : AdmissionCounters). c.sessions) m.2, ap (λ (c : AdmissionCounters). c.accepted) m.2)
-      by Pending told m =
-          (ap (λ (c : AdmissionCounters). c.sessions) m.2, ap (λ (c : AdmissionCounters). c.accepted) m.2)
+      by : (rests : Bool) → (if rests then old else queued_again old place).counters ≡ old.counters
+      by true = refl
+      by false = refl
+
+  turned_counters : (old : ServiceView P) (place turns : ℕ) (answers : List (SystemCall P)) (new : ServiceView P) →
+      TurnsAndLeaves port_transition old place turns answers new → new.counters ≡ old.counters
+  turned_counters old place turns answers new h =
+      leave_counters (is_closed h.now.0) h.now (record old { slab = h.turned }) place h.leaving new h.leaves
+
+  pub visit_counters : (at : Option (SlabPlace (SessionView × QuotaPortsView P))) (old : ServiceView P) (place turns : ℕ)
+      (answers : List (SystemCall P)) (new : ServiceView P) → VisitsBy port_transition at old place turns answers new →
+      new.counters ≡ old.counters
+  visit_counters None old place turns answers new h = ap (λ (s : ServiceView P). s.counters) h.2
+  visit_counters (Some Free) old place turns answers new h = ap (λ (s : ServiceView P). s.counters) h.2
+  visit_counters (Some Kept) old place turns answers new h = by h.0 h.1 h.3
+    where
+      by : (connect : Connect P) (told : List (SystemCall P)) → MeetsBy port_transition connect old place turns told new →
+          new.counters ≡ old.counters
+      by (Ready ports) told m = turned_counters (record old { slab = m.0 }) place turns told new m.2
+      by Failed told m = ap (λ (s : ServiceView P). s.counters) m.2
+      by Pending told m = ap (λ (s : ServiceView P). s.counters) m.2
+  visit_counters (Some (Held now)) old place turns answers new h = turned_counters old place turns answers new h
+
+  pub visits_counters : (visited : List ℕ) (turns : ℕ) (old : ServiceView P) (answers : List (SystemCall P)) (new : ServiceView P) →
+      Visits port_transition visited turns old answers new → new.counters ≡ old.counters
+  visits_counters [] turns old answers new h = ap (λ (s : ServiceView P). s.counters) h.2
+  visits_counters (place ∷ earlier) turns old answers new h =
+      visit_counters (slice_get h.0.slab.places place) (record h.0 { ready = h.8.ready }) place h.2 h.4 new h.8.visits
+      ∙ visits_counters earlier h.1 old h.3 h.0 h.7
 
 -- ---- the limit of bots in all, under the orders so far
 
@@ -246,6 +187,7 @@ record Heeds (stops : Bool) (old new : AdmissionCounters) : Type 0 where
   still_over : old.sessions ≡ old.accepted → new.sessions ≡ new.accepted
   accepted : new.accepted ≡ old.accepted
   at_most : new.sessions ≤ old.sessions
+  within : new.accepted ≤ new.sessions
 
 heeds : (stops : Bool) (old : AdmissionCounters) → old.accepted ≤ old.sessions →
     Heeds stops old (if stops then closed old else old)
@@ -255,6 +197,7 @@ heeds true old within = record {
   still_over = λ e. refl;
   accepted = refl;
   at_most = within;
+  within = omega arith;
 }
 heeds false old within = record {
   kept = λ e. refl;
@@ -262,6 +205,7 @@ heeds false old within = record {
   still_over = λ e. e;
   accepted = refl;
   at_most = omega (arith);
+  within = within;
 }
 
 abbrev count_if : Bool → ℕ
@@ -281,10 +225,10 @@ module _ {P : Type 0} (port_transition : P → PortCall → P → Type 0) (setti
     stops : stop_orders ys ≡ count_if orders.stops_accepting
     shows : show_orders ys ≡ 0 → sum_over_calls show_calls ys ≡ 0
     heeds : HeedsStops ys
-    none : ((if orders.stops_accepting then closed old else old).sessions
-        ≡ (if orders.stops_accepting then closed old else old).accepted) → (sum_over_calls accept_calls ys ≡ 0)
-        × (new.sessions ≡ new.accepted)
-    limit : new.sessions ≡ (if orders.stops_accepting then closed old else old).sessions
+    none : (heeding orders old).sessions ≡ (heeding orders old).accepted →
+        (sum_over_calls accept_calls ys ≡ 0) × (new.sessions ≡ new.accepted)
+    limit : new.sessions ≡ (heeding orders old).sessions
+    within : new.accepted ≤ new.sessions
 
   obeys : (ys : List (SystemCall P)) (old new : ServiceView P) → old.counters.accepted ≤ old.counters.sessions →
       (r : Round port_transition old ys new) → Obeys ys old.counters new.counters r.orders
@@ -293,31 +237,34 @@ module _ {P : Type 0} (port_transition : P → PortCall → P → Type 0) (setti
     shows = shows;
     heeds = subst HeedsStops (sym r.asked) (heeded, none_to_heed rest no_more);
     none = none;
-    limit = met.0 ∙ admission_limit (may_accept under (length old.hub.places)) under r.admission r.came r.admits;
+    limit = admits.0 ∙ ap (λ (c : AdmissionCounters). c.sessions) same;
+    within = admits.1;
   }
     where
       under : AdmissionCounters
       under = heeding r.orders old.counters
 
       opens : List (SystemCall P)
-      opens = opening r.orders old.hub.places
-
-      last : List (SystemCall P)
-      last = wait_where (any_progress r.admission || any_progress r.meeting || any_moved r.turned.places || any_progress r.removal
-          || is_done new)
+      opens = opening r.woken r.orders old
 
       rest : List (SystemCall P)
-      rest = shows_where r.orders.shows_sessions old.hub.places ++ r.admission ++ r.meeting ++ r.beginnings ++ r.removal ++ last
+      rest = shows_where r.orders.shows_sessions old.slab.places ++ r.visiting ++ r.admission
 
-      met : (new.counters.sessions ≡ r.came.sessions) × (new.counters.accepted ≡ r.came.accepted)
-      met = meeting_limit (r.came.connecting == 0) old.hub r.came r.meeting r.connected new.counters r.finishes
+      same : r.mid.counters ≡ under
+      same = visits_counters port_transition r.visits.visited r.visits.turns (polled r.woken r.orders old) r.visiting r.mid r.visits.takes
+
+      fits : r.mid.counters.accepted ≤ r.mid.counters.sessions
+      fits = subst (λ (c : AdmissionCounters). c.accepted ≤ c.sessions) (sym same)
+          (heeds r.orders.stops_accepting old.counters within).within
+
+      admits : (new.counters.sessions ≡ r.mid.counters.sessions) × (new.counters.accepted ≤ new.counters.sessions)
+      admits = admission_limit r.mid r.admission new r.admits fits
 
       ordered : (Has : Orders → Bool) → sum_over_calls (orders_with Has) ys ≡ count_if (Has r.orders)
       ordered Has =
           let all = counted_early (orders_with Has) (orders_early Has) port_transition ys old new r in
-          let shown = none_shown (orders_with Has) r.orders.shows_sessions old.hub.places (λ ports status. refl) in
-          let admitted = admission_none (orders_with Has) (λ came. refl) (may_accept under (length old.hub.places)) under
-          r.admission r.came r.admits in
+          let shown = none_shown (orders_with Has) r.orders.shows_sessions old.slab.places (λ ports status. refl) in
+          let admitted = admission_none (orders_with Has) (λ place came. refl) r.mid r.admission new r.admits in
           omega (arith, all, shown, admitted)
 
       stops : stop_orders ys ≡ count_if r.orders.stops_accepting
@@ -327,24 +274,24 @@ module _ {P : Type 0} (port_transition : P → PortCall → P → Type 0) (setti
       shows none =
           let all = counted_early show_calls shows_early port_transition ys old new r in
           let not_shown = none_if r.orders.shows_sessions (sym (ordered (λ orders. orders.shows_sessions)) ∙ none) in
-          let shown : sum_over_calls show_calls (shows_where r.orders.shows_sessions old.hub.places) ≡ 0 =
-          ap (λ (b : Bool). sum_over_calls show_calls (shows_where b old.hub.places)) not_shown in
-          let admitted = admission_none show_calls (λ came. refl) (may_accept under (length old.hub.places)) under
-          r.admission r.came r.admits in
+          let shown : sum_over_calls show_calls (shows_where r.orders.shows_sessions old.slab.places) ≡ 0 =
+          ap (λ (b : Bool). sum_over_calls show_calls (shows_where b old.slab.places)) not_shown in
+          let admitted = admission_none show_calls (λ place came. refl) r.mid r.admission new r.admits in
           omega (arith, all, shown, admitted)
 
       calls : sum_over_calls accept_calls ys ≡ sum_over_calls accept_calls r.admission
       calls =
           let all = counted_early accept_calls accepts_early port_transition ys old new r in
-          let shown = none_shown accept_calls r.orders.shows_sessions old.hub.places (λ ports status. refl) in
+          let shown = none_shown accept_calls r.orders.shows_sessions old.slab.places (λ ports status. refl) in
           omega (arith, all, shown)
 
       none : under.sessions ≡ under.accepted → (sum_over_calls accept_calls ys ≡ 0) × (new.counters.sessions ≡ new.counters.accepted)
       none over =
-          let admitted = admission_over (length old.hub.places) under r.admission r.came r.admits over in (
+          let all : r.mid.counters.sessions ≡ r.mid.counters.accepted =
+          subst (λ (c : AdmissionCounters). c.sessions ≡ c.accepted) (sym same) over in
+          let admitted = admission_over r.mid r.admission new r.admits all in (
             calls ∙ admitted.0,
-            met.0 ∙ ap (λ (c : AdmissionCounters). c.sessions) admitted.1 ∙ over
-                ∙ sym (ap (λ (c : AdmissionCounters). c.accepted) admitted.1) ∙ sym met.1,
+            subst (λ (s : ServiceView P). s.counters.sessions ≡ s.counters.accepted) (sym admitted.1) all,
           )
 
       no_more : stop_orders rest ≡ 0
@@ -374,7 +321,7 @@ module _ {P : Type 0} (port_transition : P → PortCall → P → Type 0) (setti
         let less = under.at_most in
         let most = h.at_most in
         omega (arith, limit, less, most);
-    accepted = r.within.accepted;
+    accepted = own.within;
     shows = λ none. (
         let both = counted_append (orders_with (λ orders. orders.shows_sessions)) xs ys in
         let shown = counted_append show_calls xs ys in
@@ -411,9 +358,9 @@ module _ {P : Type 0} (port_transition : P → PortCall → P → Type 0) (setti
   orders_heeded answers run h = record {
     stops = h.stops;
     ends = λ some. (
-        let all : (run.counters.accepted == run.counters.sessions) ≡ true =
+        let all : have_all_come run.counters ≡ true =
         ap (λ (n : ℕ). run.counters.accepted == n) (h.over some) ∙ eqb_same run.counters.accepted in
-        ap (λ (b : Bool). b && ((run.counters.connecting == 0) && (length run.hub.places == 0))) all);
+        ap (λ (b : Bool). b && list_all is_free_place run.slab.places) all);
     goes_on = h.goes_on;
     shows = h.shows;
   }

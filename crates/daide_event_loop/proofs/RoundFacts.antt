@@ -1,6 +1,6 @@
--- The progress of a turn, the cause of an ending, and the order of retirements. The expected values are independent of
--- the definitions, so a result in place of its neighbour does not check.
-use Rattle.std.proofs.Common.{◌≡◌, ℕ, zero, suc, ◌+◌, Bool, true, false, List, [], ◌∷◌, ◌++◌, map, take, replicate, Some, None, Option, refl}
+-- The progress of a turn, the cause and the report of an ending, the counters, and how a round begins. The expected values are
+-- independent of the definitions, so a result in place of its neighbour does not check.
+use Rattle.std.proofs.Common.{◌≡◌, ℕ, zero, suc, ◌+◌, Bool, true, false, List, [], ◌∷◌, ◌++◌, map, replicate, Some, None, Option, refl}
 use Rattle.std.specs.List.{range_with_len}
 use Rattle.daide_frame.specs.declared.side.Side.{Side}
 use Rattle.daide_frame.specs.declared.side.Side.TheVariants.{Bot, Server}
@@ -28,14 +28,16 @@ use Rattle.daide_io.specs.declared.byte_counts.ByteCounts.{ByteCounts}
 use Rattle.daide_io.specs.ByteCounts.{no_bytes, counted_after}
 use Rattle.daide_io.specs.FaultField.{fault_field_of}
 use Rattle.daide_event_loop.specs.QuotaPorts.{QuotaPortsView, left_after, progress_after, progress_by, reported_after, beginning}
-use Rattle.daide_event_loop.specs.QuotaPorts.{load_at_turn, load_after, is_calm}
 use Rattle.daide_event_loop.specs.Served.{turns_in, while_left}
 use Rattle.daide_settings.specs.declared.settings.Settings.{Settings}
 use Rattle.daide_event_loop.specs.declared.admission_counters.AdmissionCounters.{AdmissionCounters}
-use Rattle.daide_event_loop.specs.Serving.{may_accept, is_served, most_turns, turns_left_over}
+use Rattle.daide_driver.specs.declared.place.SlabPlace.{SlabPlace}
+use Rattle.daide_driver.specs.declared.place.SlabPlace.TheVariants as Places
+use Rattle.daide_io.specs.ReadyQueue.{ReadyView}
+use Rattle.daide_event_loop.specs.Serving.{ServiceView, is_done, is_queue_empty, have_all_come, has_room, sessions_in, pending_in}
 use Rattle.daide_settings.specs.BotsInAll.{bots_in_all}
-use Rattle.daide_event_loop.specs.Serving.{cause_by, retirements, remaining, heeding, opening}
-use Rattle.daide_io.specs.System.{Begins, Shows, BeginsTurn, Retires, Notifies, no_orders}
+use Rattle.daide_event_loop.specs.Serving.{cause_by, parting, end_of, heeding, opening}
+use Rattle.daide_io.specs.System.{SystemCall, Polls, Shows, BeginsTurn, Retires, Notifies, no_orders}
 
 -- ---- progress
 
@@ -71,42 +73,12 @@ turns_taken : (side : Side) → (left_after TurnBegins (Some 2) ≡ Some 1) × (
     × (left_after (Pulled side 4 (Got 4) []) (Some 1) ≡ Some 1) × (left_after (Offered side [] Failed) (Some 1) ≡ Some 1)
 turns_taken side = (refl, refl, refl, refl, refl, refl, refl, refl)
 
--- ---- calm and busy sessions
+-- ---- the turns of a round
 
--- the load after this many turns one after another, each of which made progress or none
-abbrev load_by : Bool → ℕ → ℕ → ℕ
-load_by made_progress zero load = load
-load_by made_progress (suc turns) load = load_at_turn made_progress (load_by made_progress turns load)
-
--- each turn after progress adds one, up to 64; each after rest takes 16 away; no other call changes the load
-loads : (side : Side) → (map (λ turns. load_by true turns 0) (0 ∷ 1 ∷ 31 ∷ 32 ∷ 63 ∷ 64 ∷ 65 ∷ 200 ∷ [])
-    ≡ 0 ∷ 1 ∷ 31 ∷ 32 ∷ 63 ∷ 64 ∷ 64 ∷ 64 ∷ [])
-    × (map (λ turns. load_by false turns 64) (0 ∷ 1 ∷ 2 ∷ 3 ∷ 4 ∷ 5 ∷ []) ≡ 64 ∷ 48 ∷ 32 ∷ 16 ∷ 0 ∷ 0 ∷ [])
-    × (load_by false 1 17 ≡ 1) × (load_by false 1 15 ≡ 0)
-    × (load_after TurnBegins true 5 ≡ 6) × (load_after TurnBegins false 21 ≡ 5) × (load_after (Clock ImTimeIsOver) true 5 ≡ 5)
-    × (load_after (Pulled side 4 (Got 4) []) true 5 ≡ 5) × (load_after (Offered side [] Failed) true 5 ≡ 5)
-loads side = (refl, refl, refl, refl, refl, refl, refl, refl, refl)
-
--- ports at rest, or not, with this load
-abbrev loaded : Bool → ℕ → QuotaPortsView ℕ
-loaded made_progress load = record {
-  ports = 1;
-  turns_left = Some 9;
-  made_progress = made_progress;
-  load = load;
-  first_synthetic_end = None;
-  bytes = no_bytes;
-}
-
--- below a load of 32 a session at rest is calm, and one whose last turn made progress never is
-calm_sessions : (map (λ load. is_calm (loaded false load)) (range_with_len 0 65) ≡ replicate 32 true ++ replicate 33 false)
-    × (map (λ load. is_calm (loaded true load)) (range_with_len 0 65) ≡ replicate 65 false)
-calm_sessions = (refl, refl)
-
--- a calm session has up to eight turns in a visit, a busy one up to four; the turns of busy ones are counted up to 32
-turns_of_a_visit : (most_turns true ≡ 8) × (most_turns false ≡ 4)
-    × (map turns_left_over (range_with_len 0 33) ≡ range_with_len 0 32 ++ 0 ∷ [])
-turns_of_a_visit = (refl, refl, refl)
+-- another visit fits into a round after 24 turns and not after 25; the last eight turns are those after 16
+room_for_a_visit : (map has_room (0 ∷ 16 ∷ 17 ∷ 24 ∷ 25 ∷ 32 ∷ []) ≡ true ∷ true ∷ true ∷ true ∷ false ∷ false ∷ [])
+    × (map (λ turns. has_room (turns + 8)) (0 ∷ 16 ∷ 17 ∷ 24 ∷ []) ≡ true ∷ true ∷ false ∷ false ∷ [])
+room_for_a_visit = (refl, refl)
 
 -- ---- the cause of an ending
 
@@ -131,7 +103,7 @@ causes : (cause_by None (Some (Ended Bot)) ≡ Causes.Session (Ended Bot))
     × (cause_by (Some (Lost Server)) (Some (Final Server)) ≡ Causes.Session (Final Server))
 causes = (refl, refl, refl, refl, refl, refl)
 
--- ---- the order of retirements
+-- ---- retirements
 
 -- counts that all differ, and the highest level
 abbrev frames : ℕ → SideCounts
@@ -170,7 +142,6 @@ ports number left = record {
   ports = number;
   turns_left = left;
   made_progress = false;
-  load = 0;
   first_synthetic_end = None;
   bytes = bytes number;
 }
@@ -181,36 +152,28 @@ spent number told = record {
   ports = number;
   turns_left = None;
   made_progress = false;
-  load = 0;
   first_synthetic_end = Some told;
   bytes = no_bytes;
 }
 
--- The first is closed, the second has a frame queued, the third is open, and the fourth was open until its turns were
--- spent. The fifth is closed, and so is the sixth, whose FM for the bot was queued until its turns were spent.
-abbrev six : Limits → List (SessionView × QuotaPortsView ℕ)
-six limits =
+-- the first ended by a fault, the second by a final message, and the third was open until its turns were spent
+abbrev three : Limits → List (SessionView × QuotaPortsView ℕ)
+three limits =
     (session limits (Over (Fault Server SecondRm)) 10 [], ports 1 (Some 9)) ∷ (queued limits, ports 2 (Some 9))
-    ∷ (session limits (Open limits.top_level) 30 [], ports 3 (Some 9)) ∷ (session limits (Over (Lost Bot)) 40 [], spent 4 (Lost Bot))
-    ∷ (session limits (Over (Ended Server)) 50 [], ports 5 (Some 0))
-    ∷ (session limits (Over (Ended Server)) 60 [], spent 6 (Lost Bot)) ∷ []
+    ∷ (session limits (Over (Lost Bot)) 40 [], spent 4 (Lost Bot)) ∷ []
 
--- from the last place to the first, each closed session, with its own end and its own counts
-parted_from_the_last : (limits : Limits) →
-    retirements (six limits)
-    ≡ Notifies TurnsSpent ∷ Retires 6 (record { cause = Causes.Session (Ended Server); account = counts limits 60; fault_field = None })
-    ∷ Retires 5 (record { cause = Causes.Session (Ended Server); account = counts limits 50; fault_field = None })
-    ∷ Notifies TurnsSpent ∷ Retires 4 (record { cause = Causes.TurnsSpent; account = counts limits 40; fault_field = None })
-    ∷ Retires 1 (record {
+-- each with its own end, its own counts and its place
+parted_from_their_places : (limits : Limits) →
+    map (λ now. parting 7 now.1 (end_of now)) (three limits)
+    ≡ (Retires 7 1 (record {
       cause = Causes.Session (Fault Server SecondRm);
       account = counts limits 10;
       fault_field = Some (Fields.Kind 1);
-    }) ∷ []
-parted_from_the_last limits = refl
-
-others_stay : (limits : Limits) →
-    remaining (six limits) ≡ (queued limits, ports 2 (Some 9)) ∷ (session limits (Open limits.top_level) 30 [], ports 3 (Some 9)) ∷ []
-others_stay limits = refl
+    }) ∷ [])
+    ∷ (Retires 7 2 (record { cause = Causes.Session (Final Bot); account = counts limits 20; fault_field = None }) ∷ [])
+    ∷ (Notifies TurnsSpent ∷ Retires 7 4 (record { cause = Causes.TurnsSpent; account = counts limits 40; fault_field = None }) ∷ [])
+    ∷ []
+parted_from_their_places limits = refl
 
 -- only a fault is about a field, though the server's frame is not whole
 no_field_without_a_fault : (limits : Limits) →
@@ -236,8 +199,8 @@ bytes_wrap = (refl, refl, refl, refl)
 turns_counted : (turns_in (TurnBegins ∷ Clock NoEvent ∷ TurnBegins ∷ Clock NoEvent ∷ TurnBegins ∷ Clock NoEvent ∷ []) ≡ 3)
     × (while_left 2 (TurnBegins ∷ Clock ImTimeIsOver ∷ TurnBegins ∷ Clock NoEvent ∷ TurnBegins ∷ Clock NoEvent ∷ [])
     ≡ TurnBegins ∷ Clock ImTimeIsOver ∷ TurnBegins ∷ Clock NoEvent ∷ [])
-    × (beginning (ports 4 (Some 1)) (ports 5 (Some 0)) ≡ BeginsTurn 4 5 ∷ [])
-    × (beginning (ports 4 (Some 0)) (spent 4 (Lost Bot)) ≡ [])
+    × (beginning 3 (ports 4 (Some 1)) (ports 5 (Some 0)) ≡ BeginsTurn 3 4 5 ∷ [])
+    × (beginning 3 (ports 4 (Some 0)) (spent 4 (Lost Bot)) ≡ [])
 turns_counted = (refl, refl, refl, refl)
 
 -- ---- the number of bots
@@ -248,49 +211,59 @@ bots : (settings : Settings) → (bots_in_all (record settings { endless = false
     × (bots_in_all (record settings { endless = true; sessions = 1 }) ≡ 4294967295)
 bots settings = (refl, refl, refl)
 
--- the counters of a run with two places, after this many bots were accepted
+-- the counters of a run after this many bots were accepted
 abbrev counted : Settings → ℕ → AdmissionCounters
-counted settings accepted = record {
-  max_sessions = 2;
-  sessions = bots_in_all settings;
-  turns = 9;
-  connecting = 0;
-  accepted = accepted;
+counted settings accepted = record { sessions = bots_in_all settings; turns = 9; accepted = accepted }
+
+-- After seven of seven bots all came. An endless run accepts the eighth, and so on up to the last number.
+came_or_not : (settings : Settings) →
+    (have_all_come (counted (record settings { endless = false; sessions = 7 }) 7) ≡ true)
+    × (have_all_come (counted (record settings { endless = false; sessions = 7 }) 6) ≡ false)
+    × (have_all_come (counted (record settings { endless = true; sessions = 7 }) 7) ≡ false)
+    × (have_all_come (counted (record settings { endless = true; sessions = 7 }) 4294967294) ≡ false)
+    × (have_all_come (counted (record settings { endless = true; sessions = 7 }) 4294967295) ≡ true)
+came_or_not settings = (refl, refl, refl, refl, refl)
+
+-- ---- a run
+
+-- a run of seven bots with these places and this queue, after this many bots were accepted
+abbrev run : Limits → Settings → ℕ → List (SlabPlace (SessionView × QuotaPortsView ℕ)) → List ℕ → List ℕ → ServiceView ℕ
+run limits settings accepted places fresh moving = record {
+  slab = record { limits = limits; places = places };
+  counters = counted (record settings { endless = false; sessions = 7 }) accepted;
+  ready = record { fresh = fresh; moving = moving; places = 3 };
 }
 
--- After seven of seven bots, none of which is left, a run is served. An endless one accepts the eighth, and so on up to
--- the last number; then it is served too.
-served_or_not : (settings : Settings) →
-    (may_accept (counted (record settings { endless = false; sessions = 7 }) 7) 0 ≡ false)
-    × (is_served (counted (record settings { endless = false; sessions = 7 }) 7) 0 ≡ true)
-    × (may_accept (counted (record settings { endless = true; sessions = 7 }) 7) 0 ≡ true)
-    × (is_served (counted (record settings { endless = true; sessions = 7 }) 7) 0 ≡ false)
-    × (may_accept (counted (record settings { endless = true; sessions = 7 }) 4294967294) 0 ≡ true)
-    × (may_accept (counted (record settings { endless = true; sessions = 7 }) 4294967295) 0 ≡ false)
-    × (is_served (counted (record settings { endless = true; sessions = 7 }) 4294967295) 0 ≡ true)
-served_or_not settings = (refl, refl, refl, refl, refl, refl, refl)
+abbrev open_at_a_place : Limits → SlabPlace (SessionView × QuotaPortsView ℕ)
+open_at_a_place limits = Places.Held (session limits (Open limits.top_level) 30 [], ports 3 (Some 9))
 
--- the counters of a run of seven bots, with this many connects under way
-abbrev pending : Settings → ℕ → ℕ → AdmissionCounters
-pending settings connecting accepted =
-    record (counted (record settings { endless = false; sessions = 7 }) accepted) { connecting = connecting }
+-- a run with a session, or with a connect that is pending, is not done, and neither is one that may accept a bot
+done_or_not : (limits : Limits) (settings : Settings) →
+    (is_done (run limits settings 7 (Places.Free ∷ Places.Free ∷ []) [] []) ≡ true)
+    × (is_done (run limits settings 6 (Places.Free ∷ Places.Free ∷ []) [] []) ≡ false)
+    × (is_done (run limits settings 7 (Places.Free ∷ Places.Kept ∷ []) [] []) ≡ false)
+    × (is_done (run limits settings 7 (Places.Free ∷ open_at_a_place limits ∷ []) [] []) ≡ false)
+done_or_not limits settings = (refl, refl, refl, refl)
 
--- a connect under way needs one of the two places, and a run with one, or with a session, is not served
-connects_under_way : (settings : Settings) →
-    (may_accept (pending settings 1 3) 0 ≡ true) × (may_accept (pending settings 1 3) 1 ≡ false)
-    × (may_accept (pending settings 2 3) 0 ≡ false) × (may_accept (pending settings 0 3) 1 ≡ true)
-    × (may_accept (pending settings 0 3) 2 ≡ false) × (is_served (pending settings 1 7) 0 ≡ false)
-    × (is_served (pending settings 0 7) 1 ≡ false) × (is_served (pending settings 0 6) 0 ≡ false)
-connects_under_way settings = (refl, refl, refl, refl, refl, refl, refl, refl)
+used_places : (limits : Limits) (settings : Settings) →
+    let slab = (run limits settings 7 (Places.Kept ∷ open_at_a_place limits ∷ Places.Free ∷ Places.Kept ∷ []) [] []).slab in
+    (sessions_in slab ≡ 1) × (pending_in slab ≡ 2)
+used_places limits settings = (refl, refl)
+
+-- a poll may block only if both lists are empty
+idle_or_not : (limits : Limits) (settings : Settings) →
+    (is_queue_empty (run limits settings 7 [] [] []) ≡ true) × (is_queue_empty (run limits settings 7 [] (2 ∷ []) []) ≡ false)
+    × (is_queue_empty (run limits settings 7 [] [] (2 ∷ [])) ≡ false)
+idle_or_not limits settings = (refl, refl, refl)
 
 -- ---- a round begins
 
--- the first three of these sessions, each with its own status and its own bytes: before the first message and after the end the level is
--- the lowest, and an FM of four bytes is queued for the second bot
-shown_in_order : (limits : Limits) →
-    opening (record { stops_accepting = false; shows_sessions = true }) (take 3 (six limits))
-    ≡ Begins (record { stops_accepting = false; shows_sessions = true })
-    ∷ Shows 1 (record { phase = Phases.Over; level = level_in WaitIm; account = counts limits 10; queued_to_bot = 0; queued_to_server = 0; bytes = bytes 1 })
+-- each session with its own status and its own bytes, and none for a place without one: after the end the level is the
+-- lowest, and an FM of four bytes is queued for the second bot
+shown_in_order : (limits : Limits) (settings : Settings) →
+    opening (2 ∷ []) (record { stops_accepting = false; shows_sessions = true })
+    (run limits settings 7 (Places.Kept ∷ Places.Held (queued limits, ports 2 (Some 9)) ∷ Places.Free ∷ open_at_a_place limits ∷ []) [] (1 ∷ []))
+    ≡ Polls false (2 ∷ []) (record { stops_accepting = false; shows_sessions = true })
     ∷ Shows 2 (record { phase = Phases.Over; level = level_in WaitIm; account = counts limits 20; queued_to_bot = 4; queued_to_server = 0; bytes = bytes 2 })
     ∷ Shows 3 (record {
       phase = Phases.Open;
@@ -300,37 +273,16 @@ shown_in_order : (limits : Limits) →
       queued_to_server = 0;
       bytes = bytes 3;
     }) ∷ []
-shown_in_order limits = refl
-
--- an answer of six bytes and an FM that are queued for the server count for it, and not for the bot
-queued_for_the_server : (limits : Limits) →
-    opening (record { stops_accepting = false; shows_sessions = true })
-    ((
-      record (session limits (Open limits.top_level) 30 []) {
-        wires = both [] (record { to = Server; answers = Some Server; bytes = 2 ∷ 0 ∷ 0 ∷ 2 ∷ 72 ∷ 19 ∷ [] }
-            ∷ record { to = Server; answers = None; bytes = fm_bytes } ∷ []);
-      },
-      ports 3 (Some 9),
-    ) ∷ [])
-    ≡ Begins (record { stops_accepting = false; shows_sessions = true })
-    ∷ Shows 3 (record {
-      phase = Phases.Open;
-      level = limits.top_level;
-      account = counts limits 30;
-      queued_to_bot = 0;
-      queued_to_server = 10;
-      bytes = bytes 3;
-    }) ∷ []
-queued_for_the_server limits = refl
+shown_in_order limits settings = refl
 
 -- without orders a round begins with this one call, and heeds nothing
-nothing_ordered : (limits : Limits) (counters : AdmissionCounters) →
-    (opening no_orders (six limits) ≡ Begins no_orders ∷ []) × (heeding no_orders counters ≡ counters)
-nothing_ordered limits counters = (refl, refl)
+nothing_ordered : (limits : Limits) (settings : Settings) (counters : AdmissionCounters) →
+    (opening [] no_orders (run limits settings 7 (open_at_a_place limits ∷ []) [] []) ≡ Polls true [] no_orders ∷ [])
+    × (heeding no_orders counters ≡ counters)
+nothing_ordered limits settings counters = (refl, refl)
 
--- told to stop with three of nine bots accepted, a run has three bots in all; its connects go on
+-- told to stop with three of nine bots accepted, a run has three bots in all
 told_to_stop :
-    heeding (record { stops_accepting = true; shows_sessions = false })
-    (record { max_sessions = 16; sessions = 9; turns = 7; connecting = 2; accepted = 3 })
-    ≡ record { max_sessions = 16; sessions = 3; turns = 7; connecting = 2; accepted = 3 }
+    heeding (record { stops_accepting = true; shows_sessions = false }) (record { sessions = 9; turns = 7; accepted = 3 })
+    ≡ record { sessions = 3; turns = 7; accepted = 3 }
 told_to_stop = refl

@@ -1,13 +1,10 @@
 -- The sessions of a run, step by step.
-use Rattle.std.proofs.Common.{◌≡◌, ℕ, zero, suc, Bool, true, false, List, [], ◌∷◌, ◌++◌, length}
-use Rattle.std.proofs.Common.{◌+◌, refl, sym, ap, ◌∙◌, subst, arith, append-nil, length-append}
-use Rattle.std.specs.Prelude.{◌==◌, ◌&&◌, ◌||◌, Option, Some, None, Contains, All, is_none, is_some, not, if◌then◌else◌}
-use Rattle.std.proofs.lemmas.Bool.{eqb-true}
-use Rattle.std.proofs.lemmas.List.Elements.{All-nil, All-cons, All-head, All-tail, All-same, All-append}
-use Rattle.std.proofs.lemmas.List.Elements.{All-push, All-weaker, All-filter}
+use Rattle.std.proofs.Common.{◌≡◌, ◌≢◌, ℕ, zero, suc, ◌+◌, ◌<◌, Bool, true, false, List, [], ◌∷◌, ◌++◌, refl, sym, ap, ◌∙◌, subst, arith, inl, inr}
+use Rattle.std.specs.Prelude.{◌==◌, ◌&&◌, count_by, Option, Some, None, Contains, All, is_none, is_some, slice_get, slice_set, if◌then◌else◌}
+use Rattle.std.specs.List.{list_all}
+use Rattle.std.proofs.lemmas.Bool.{eqb-true, eqb-false}
+use Rattle.std.proofs.lemmas.List.Elements.{All-nil, All-cons, All-same, All-append, All-push, All-weaker}
 use Rattle.std.proofs.lemmas.List.Elements.{Contains-append_left, Contains-append_right}
-use Rattle.std.proofs.lemmas.Option.{slice_get_within, get_or_from_slice_get}
-use Rattle.std.proofs.Math.Dec.{eqb-suc-zero}
 use Rattle.daide_protocol.specs.declared.ending.Ending.{Ending}
 use Rattle.daide_protocol.proofs.EndingLemmas.{ending_known}
 use Rattle.daide_protocol.specs.Machine.{Limits, is_over, ending_in}
@@ -15,7 +12,10 @@ use Rattle.daide_protocol.specs.Wires.{SessionView, IsNew, is_closed}
 use Rattle.daide_io.specs.Ports.{PortCall, TurnBegins, EvolvesBy}
 use Rattle.daide_driver.specs.Headline.{untouched}
 use Rattle.daide_driver.specs.Totals.{RefinesRun}
-use Rattle.daide_driver.specs.Hub.{HubView, IsBegun, IsTurned}
+use Rattle.daide_driver.specs.Hub.{IsBegun, IsTurned}
+use Rattle.daide_driver.specs.declared.place.SlabPlace.{SlabPlace}
+use Rattle.daide_driver.specs.declared.place.SlabPlace.TheVariants.{Free, Kept, Held}
+use Rattle.daide_driver.specs.Slab.{SlabView, IsAt, IfHeldAt, with_place, all_free, is_free_place, is_held, is_kept}
 use Rattle.daide_driver.proofs.PortCalls.{turn_begins}
 use Rattle.daide_io.proofs.TraceLemmas.{transition_then}
 use Rattle.daide_driver.proofs.Stretches.{relays_append}
@@ -25,25 +25,19 @@ use Rattle.daide_settings.specs.declared.settings.Settings.{Settings}
 use Rattle.daide_io.specs.declared.system.Connect.{Connect}
 use Rattle.daide_io.specs.declared.system.Connect.TheVariants.{Ready, Failed, Pending}
 use Rattle.daide_io.specs.declared.system.Notice.TheVariants.{CannotReach, TurnsSpent}
-use Rattle.daide_io.specs.declared.system.Orders.{Orders}
+use Rattle.daide_io.specs.declared.system.SessionStatus.{SessionStatus}
 use Rattle.daide_event_loop.specs.declared.admission_counters.AdmissionCounters.{AdmissionCounters}
-use Rattle.daide_event_loop.specs.QuotaPorts.{QuotaPortsView, Meters, progress_by, is_calm}
-use Rattle.daide_io.specs.System.{SystemCall, Begins, Shows, ReportsNews, BeginsTurn, Watches, Accepts, Connects}
-use Rattle.daide_io.specs.System.{Retires, Notifies, Waits}
-use Rattle.daide_event_loop.specs.Serving.{ServiceView, fresh, initial_service, may_accept, come, AdmitsWhere, MeetsWhere}
-use Rattle.daide_event_loop.specs.Serving.{IsDueBy, TakesTurns, most_turns, VisitsPlace, TurnsAll}
-use Rattle.daide_event_loop.specs.Serving.{last_words, retirement, retirement_where}
-use Rattle.daide_event_loop.specs.Serving.{retirements, remaining, parting, closed, heeding, shows_where, opening}
-use Rattle.daide_event_loop.specs.Serving.{cause_by, end_of}
-use Rattle.daide_event_loop.specs.Serving.{MeetsBy, wait_where, any_progress, any_moved, Round, Rounds, is_done}
-use Rattle.daide_event_loop.specs.Served.{IsServedSession, run_limits, IsSessionOfRun, IsServed, IsEndOf, RetiresClosed, connects, retires, sum_over_calls}
-use Rattle.daide_event_loop.specs.Served.{IsWholeRun}
-use Rattle.daide_event_loop.proofs.BeginningLemmas.{OnlyTurns, none_counted, opening_none, all_turns, all_shown, turns_only}
-use Rattle.daide_event_loop.proofs.VisitLemmas.{Gets, gets_own, some_most, some_turns, all_visited}
+use Rattle.daide_event_loop.specs.QuotaPorts.{QuotaPortsView, Meters, progress_by, beginning_where, RestsBy}
+use Rattle.daide_io.specs.System.{SystemCall, Polls, Shows, Accepts, Connects, BeginsTurn, Rests, Retires, Notifies, status_of}
+use Rattle.daide_event_loop.specs.Serving.{ServiceView, fresh, initial_service, is_done, have_all_come, closed, heeding, shows_where, opening, polled}
+use Rattle.daide_event_loop.specs.Serving.{OpensTurn, TakesTurn, TurnsInRow, LeavesVisit, TurnsAndLeaves, MeetsBy, VisitsBy, Visits, with_free_place, queued_again}
+use Rattle.daide_event_loop.specs.Serving.{last_words, parting, cause_by, end_of, Admits, accepted_at, Round, Rounds, BreaksOff, sessions_in, pending_in}
+use Rattle.daide_event_loop.specs.Served.{IsServedSession, run_limits, IsSessionOfRun, IsServed, IsEndOf, RetiresClosed, AreServed}
+use Rattle.daide_event_loop.specs.Served.{IsWholeRun, comes, connects, retires, unreached, sum_over_calls}
+use Rattle.daide_event_loop.proofs.BeginningLemmas.{get_set, changed_there}
 use Rattle.daide_event_loop.proofs.CauseLemmas.{IsCut, cut_begins, cut_begun, cut_turn, cut_cause, cut_field}
-use Rattle.daide_event_loop.proofs.CountLemmas.{counted_append, Counts, counts_then, admission_counts, meeting_counts}
-use Rattle.daide_event_loop.proofs.CountLemmas.{opening_counts, turns_count, removal_counts, wait_counts}
-use Rattle.daide_event_loop.proofs.OrderLemmas.{Limited, first_limit, limit_then}
+use Rattle.daide_event_loop.proofs.CountLemmas.{count_first, Counts, counts_then, opening_counts, visits_counts, admission_counts}
+use Rattle.daide_event_loop.proofs.OrderLemmas.{Limited, first_limit, limit_then, visits_counters, visit_counters}
 
 -- ---- progress
 
@@ -58,134 +52,125 @@ module _ {P : Type 0} (port_transition : P → PortCall → P → Type 0) where
   turn_moved a m b begun t =
       answers_moved t.exchange.call m.1 b.1 t.exchange.ports ∙ ap (progress_by t.exchange.call) begun.1.made_progress
 
--- ---- the ports delivered and the ports retired
+-- ---- a place of a slab
 
-as_many : {a b : ℕ} → a ≡ b → a ≡ b + 0
-as_many {a} {b} e = omega (arith, e)
+set_beside : {X : Type 0} (xs : List X) (i j : ℕ) (x : X) → j ≢ i → slice_get (slice_set xs i x) j ≡ slice_get xs j
+set_beside [] zero zero x apart = refl
+set_beside [] zero (suc j) x apart = refl
+set_beside [] (suc i) zero x apart = refl
+set_beside [] (suc i) (suc j) x apart = refl
+set_beside (y ∷ xs) zero zero x apart = absurd (apart refl)
+set_beside (y ∷ xs) zero (suc j) x apart = refl
+set_beside (y ∷ xs) (suc i) zero x apart = refl
+set_beside (y ∷ xs) (suc i) (suc j) x apart = set_beside xs i j x (λ same. apart (ap suc same))
 
 module _ {P : Type 0} where
-  -- this many were delivered, and this many retired
-  record Passes (answers : List (SystemCall P)) (many few : ℕ) : Type 0 where
-    came : sum_over_calls connects answers ≡ many
-    went : sum_over_calls retires answers ≡ few
+  -- at most one place is not as before
+  pub record ChangesOnlyAt (place : ℕ) (old new : SlabView P) : Type 0 where
+    pub limits : new.limits ≡ old.limits
+    pub beside : (other : ℕ) → other ≢ place → slice_get new.places other ≡ slice_get old.places other
 
-  passes_then : (xs ys : List (SystemCall P)) (a b c d : ℕ) → Passes xs a b → Passes ys c d →
-      Passes (xs ++ ys) (a + c) (b + d)
-  passes_then xs ys a b c d h k = record {
-    came = rw (counted_append connects xs ys, h.came, k.came) refl;
-    went = rw (counted_append retires xs ys, h.went, k.went) refl;
+  pub same_there : (place : ℕ) (old new : SlabView P) → new ≡ old → ChangesOnlyAt place old new
+  same_there place old new e = record {
+    limits = ap (λ (s : SlabView P). s.limits) e;
+    beside = λ other apart. ap (λ (s : SlabView P). slice_get s.places other) e;
   }
 
-  passes_as : (xs ys : List (SystemCall P)) (a b : ℕ) → xs ≡ ys → Passes ys a b → Passes xs a b
-  passes_as xs ys a b e h = subst (λ (l : List (SystemCall P)). Passes l a b) (sym e) h
-
-  opening_passes : (orders : Orders) (places : List (SessionView × QuotaPortsView P)) → Passes (opening orders places) 0 0
-  opening_passes orders places = record {
-    came = opening_none connects orders places refl (λ ports status. refl);
-    went = opening_none retires orders places refl (λ ports status. refl);
+  pub one_there : (place : ℕ) (old new : SlabView P) (now : SlabPlace (SessionView × P)) → new ≡ with_place old place now →
+      ChangesOnlyAt place old new
+  one_there place old new now e = record {
+    limits = ap (λ (s : SlabView P). s.limits) e;
+    beside = λ other apart. ap (λ (s : SlabView P). slice_get s.places other) e ∙ set_beside old.places place other now apart;
   }
 
-  turns_pass : (answers : List (SystemCall P)) → OnlyTurns answers → Passes answers 0 0
-  turns_pass answers h = record {
-    came = none_counted connects answers (λ ports news. refl) (λ before after. refl) (λ ports. refl) h;
-    went = none_counted retires answers (λ ports news. refl) (λ before after. refl) (λ ports. refl) h;
+  pub there_then : (place : ℕ) (old mid new : SlabView P) → ChangesOnlyAt place old mid → ChangesOnlyAt place mid new →
+      ChangesOnlyAt place old new
+  there_then place old mid new h k = record {
+    limits = k.limits ∙ h.limits;
+    beside = λ other apart. k.beside other apart ∙ h.beside other apart;
   }
 
-  admission_passes : (b : Bool) (old : AdmissionCounters) (answers : List (SystemCall P)) (new : AdmissionCounters) →
-      AdmitsWhere b old answers new → Passes answers 0 0
-  admission_passes true old answers new h =
-      passes_as answers (Accepts h.0 ∷ []) 0 0 h.1 (record { came = refl; went = refl })
-  admission_passes false old answers new h = passes_as answers [] 0 0 h.0 (record { came = refl; went = refl })
+  -- if this is at a place, what holds of it holds of whatever is there
+  pub held_here : (slab : SlabView P) (place : ℕ) (now : SessionView × P) (Holds : SessionView × P → Type 0) →
+      IsAt slab place (Held now) → Holds now → IfHeldAt slab.places place Holds
+  held_here slab place now Holds at h =
+      λ held e. (let same : now ≡ held = cc (sym at ∙ e) in subst Holds same h)
 
-  -- the run has the delivered ports
-  meeting_passes : (b : Bool) (old : HubView (QuotaPortsView P)) (counters : AdmissionCounters) (answers : List (SystemCall P))
-      (new : HubView (QuotaPortsView P)) (new_counters : AdmissionCounters) → MeetsWhere b old counters answers new new_counters →
-      (n : ℕ) × Passes answers n 0 × (length new.places ≡ length old.places + n)
-  meeting_passes true old counters answers new new_counters m = (
-    0,
-    passes_as answers [] 0 0 m.0 (record { came = refl; went = refl }),
-    as_many (ap (λ (k : HubView (QuotaPortsView P)). length k.places) m.1),
-  )
-  meeting_passes false old counters answers new new_counters m = by m.0 m.1 m.2 m.3
+  pub none_here : (slab : SlabView P) (place : ℕ) (Holds : SessionView × P → Type 0) → IsAt slab place Free →
+      IfHeldAt slab.places place Holds
+  none_here slab place Holds at = λ held e. absurd (cc (sym at ∙ e))
+
+  -- what holds of the session at each place, if it does at the only place that changed
+  pub each_held : (place : ℕ) (old new : SlabView P) (Holds : ℕ → SessionView × P → Type 0) → ChangesOnlyAt place old new →
+      ((other : ℕ) → IfHeldAt old.places other (Holds other)) → IfHeldAt new.places place (Holds place) →
+      (other : ℕ) → IfHeldAt new.places other (Holds other)
+  each_held place old new Holds only before here other = by (other == place) refl
     where
-      by : (connect : Connect P) (told : List (SystemCall P)) → answers ≡ Connects connect ∷ told →
-          MeetsBy connect old counters told new new_counters →
-          (n : ℕ) × Passes answers n 0 × (length new.places ≡ length old.places + n)
-      by (Ready ports) told e m = (
-        1,
-        passes_as answers (Connects (Ready ports) ∷ []) 1 0
-            (e ∙ ap (λ (l : List (SystemCall P)). Connects (Ready ports) ∷ l) m.0)
-            (record { came = refl; went = refl }),
-        ap (λ (k : HubView (QuotaPortsView P)). length k.places) m.1.2
-            ∙ length-append old.places ((m.1.0, fresh ports counters.turns) ∷ []),
-      )
-      by Failed told e m = (
-        0,
-        passes_as answers (Connects Failed ∷ Notifies CannotReach ∷ []) 0 0
-            (e ∙ ap (λ (l : List (SystemCall P)). Connects Failed ∷ l) m.0) (record { came = refl; went = refl }),
-        as_many (ap (λ (k : HubView (QuotaPortsView P)). length k.places) m.1),
-      )
-      by Pending told e m = (
-        0,
-        passes_as answers (Connects Pending ∷ []) 0 0
-            (e ∙ ap (λ (l : List (SystemCall P)). Connects Pending ∷ l) m.0) (record { came = refl; went = refl }),
-        as_many (ap (λ (k : HubView (QuotaPortsView P)). length k.places) m.1),
-      )
+      by : (same : Bool) → (other == place) ≡ same → IfHeldAt new.places other (Holds other)
+      by true e = subst (λ (n : ℕ). IfHeldAt new.places n (Holds n)) (sym (eqb-true other place e)) here
+      by false e = λ held at. before other held (sym (only.beside other (eqb-false other place e)) ∙ at)
 
-  -- the ports that the run no longer has were retired
-  removal_passes : (places : List (SessionView × QuotaPortsView P)) →
-      (n : ℕ) × Passes (retirements places) 0 n × (length places ≡ length (remaining places) + n)
-  removal_passes [] = (0, record { came = refl; went = refl }, refl)
-  removal_passes (place ∷ places) = one (is_closed place.0) refl (removal_passes places)
-    where
-      kept : is_closed place.0 ≡ false → remaining (place ∷ places) ≡ place ∷ remaining places
-      kept e = rw e refl
+module _ {P : Type 0} (port_transition : P → PortCall → P → Type 0) where
+  turn_there : (old : SlabView (QuotaPortsView P)) (place : ℕ) (answers : List (SystemCall P)) (new : SlabView (QuotaPortsView P)) →
+      TakesTurn port_transition old place answers new → ChangesOnlyAt place old new
+  turn_there old place answers new h =
+      there_then place old h.begun new (one_there place old h.begun (Held h.begins.1) h.begins.3)
+      (one_there place h.begun new (Held h.runs.1) h.runs.3)
 
-      gone : is_closed place.0 ≡ true → remaining (place ∷ places) ≡ remaining places
-      gone e = rw e refl
+  pub turns_there_only : (n : ℕ) (old : SlabView (QuotaPortsView P)) (place : ℕ) (answers : List (SystemCall P))
+      (new : SlabView (QuotaPortsView P)) → TurnsInRow port_transition n old place answers new → ChangesOnlyAt place old new
+  turns_there_only zero old place answers new h = same_there place old new h.1
+  turns_there_only (suc n) old place answers new h =
+      there_then place old h.0 new (turns_there_only n old place h.1 h.0 h.4) (turn_there h.0 place h.2 new h.6)
 
-      spoke : (b : Bool) → Passes (last_words b ++ Retires place.1.ports (end_of place) ∷ []) 0 1
-      spoke true = record { came = refl; went = refl }
-      spoke false = record { came = refl; went = refl }
+-- ---- what holds of each call of a trace
 
-      one : (b : Bool) → is_closed place.0 ≡ b →
-          ((n : ℕ) × Passes (retirements places) 0 n × (length places ≡ length (remaining places) + n)) →
-          (n : ℕ) × Passes (retirements (place ∷ places)) 0 n
-          × (length (place ∷ places) ≡ length (remaining (place ∷ places)) + n)
-      one true e h = (
-        h.0 + 1,
-        passes_as (retirements (place ∷ places)) (retirements places ++ parting place.1 (end_of place)) 0 (h.0 + 1)
-            (ap (λ (c : Bool). retirements places ++ retirement_where c place) e)
-            (passes_then (retirements places) (parting place.1 (end_of place)) 0 h.0 0 1 h.1 (spoke (is_none place.1.turns_left))),
-        (let rest = h.2 in
-            let same = ap length (gone e) in
-            omega (arith, rest, same)),
-      )
-      one false e h = (
-        h.0,
-        passes_as (retirements (place ∷ places)) (retirements places) 0 h.0
-            (ap (λ (c : Bool). retirements places ++ retirement_where c place) e ∙ append-nil (retirements places)) h.1,
-        (let rest = h.2 in
-            let same = ap length (kept e) in
-            omega (arith, rest, same)),
-      )
+module _ {P : Type 0} (port_transition : P → PortCall → P → Type 0) (Q : SystemCall P → Type 0) where
+  all_begun : (place : ℕ) → ((before after : P) → Q (BeginsTurn place before after)) → (left : Option ℕ) (before after : P) →
+      All Q (beginning_where left place before after)
+  all_begun place each None before after = All-nil Q
+  all_begun place each (Some turns) before after = All-cons Q (BeginsTurn place before after) [] (each before after) (All-nil Q)
 
-  wait_passes : (made_progress : Bool) → Passes (wait_where made_progress) 0 0
-  wait_passes true = record { came = refl; went = refl }
-  wait_passes false = record { came = refl; went = refl }
+  pub all_turns : (place : ℕ) → ((before after : P) → Q (BeginsTurn place before after)) → (n : ℕ)
+      (old : SlabView (QuotaPortsView P)) (answers : List (SystemCall P)) (new : SlabView (QuotaPortsView P)) →
+      TurnsInRow port_transition n old place answers new → All Q answers
+  all_turns place each zero old answers new h = All-same Q answers [] h.0 (All-nil Q)
+  all_turns place each (suc n) old answers new h =
+      let begins = h.6.begins in
+      All-same Q answers (h.1 ++ h.2) h.3
+      (All-append Q h.1 h.2 (all_turns place each n old h.1 h.0 h.4)
+      (All-same Q h.2 (beginning_where begins.1.1.turns_left place begins.0.1.ports begins.1.1.ports) begins.4.1
+      (all_begun place each begins.1.1.turns_left begins.0.1.ports begins.1.1.ports)))
+
+  pub all_rests : (place : ℕ) → ((ports : P) (rests : Bool) → Q (Rests place ports rests)) → (moved : Bool) (ports : P)
+      (answers : List (SystemCall P)) (rests : Bool) → RestsBy moved place ports answers rests → All Q answers
+  all_rests place each true ports answers rests h = All-same Q answers [] h.0 (All-nil Q)
+  all_rests place each false ports answers rests h =
+      All-same Q answers (Rests place ports rests ∷ []) h (All-cons Q (Rests place ports rests) [] (each ports rests) (All-nil Q))
+
+  pub all_shown : (shown : Bool) (places : List (SlabPlace (SessionView × QuotaPortsView P))) →
+      ((ports : P) (status : SessionStatus) → Q (Shows ports status)) → All Q (shows_where shown places)
+  all_shown false places each = All-nil Q
+  all_shown true [] each = All-nil Q
+  all_shown true (Free ∷ places) each = all_shown true places each
+  all_shown true (Kept ∷ places) each = all_shown true places each
+  all_shown true (Held now ∷ places) each =
+      All-cons Q (Shows now.1.ports (status_of now.0 now.1.bytes)) (shows_where true places) (each now.1.ports (status_of now.0 now.1.bytes))
+      (all_shown true places each)
 
 -- a session that its port calls since the opening of a run lead to, with its counts and its look-ups
-abbrev IsReached : Limits → List PortCall → SessionView → Type 0
+abbrev pub IsReached : Limits → List PortCall → SessionView → Type 0
 IsReached limits history g = RefinesRun (untouched limits) history g
 
 module _ {P : Type 0} (port_transition : P → PortCall → P → Type 0) (settings : Settings) where
   -- ---- a longer trace
 
-  abbrev later : (Kind : Limits → List PortCall → SessionView → Type 0) (xs ys : List (SystemCall P)) (now : SessionView × QuotaPortsView P) →
+  abbrev pub later : (Kind : Limits → List PortCall → SessionView → Type 0) (xs ys : List (SystemCall P)) (now : SessionView × QuotaPortsView P) →
       IsSessionOfRun port_transition Kind settings xs now → IsSessionOfRun port_transition Kind settings (xs ++ ys) now
   later Kind xs ys now h = record {
+    place = h.place;
     ports = h.ports;
-    came = Contains-append_left xs ys (Connects (Ready h.ports)) h.came;
+    came = Contains-append_left xs ys (Connects h.place (Ready h.ports)) h.came;
     history = h.history;
     answered = h.answered;
     stands = h.stands;
@@ -193,34 +178,34 @@ module _ {P : Type 0} (port_transition : P → PortCall → P → Type 0) (setti
 
   gone_later : (xs ys : List (SystemCall P)) (answer : SystemCall P) → RetiresClosed port_transition settings xs answer →
       RetiresClosed port_transition settings (xs ++ ys) answer
-  gone_later xs ys (Retires ports end) h = (h.0, h.1, h.2, (later IsServedSession xs ys h.0 h.3.0, h.3.1))
-  gone_later xs ys (Begins orders) h = tt
+  gone_later xs ys (Retires place ports end) h = (h.0, h.1, h.2, (later IsServedSession xs ys h.0 h.3.0, h.3.1, h.3.2))
+  gone_later xs ys (Polls may_block woken orders) h = tt
   gone_later xs ys (Shows ports status) h = tt
-  gone_later xs ys (ReportsNews ports news) h = tt
-  gone_later xs ys (BeginsTurn before after) h = tt
-  gone_later xs ys (Watches ports) h = tt
-  gone_later xs ys (Accepts came) h = tt
-  gone_later xs ys (Connects connect) h = tt
+  gone_later xs ys (Accepts place came) h = tt
+  gone_later xs ys (Connects place connect) h = tt
+  gone_later xs ys (BeginsTurn place before after) h = tt
+  gone_later xs ys (Rests place ports rests) h = tt
   gone_later xs ys (Notifies notice) h = tt
-  gone_later xs ys Waits h = tt
 
   -- ---- turns
 
   module _ (all : List (SystemCall P)) where
-    abbrev Held : SessionView × QuotaPortsView P → Type 0
-    Held now = (h : IsSessionOfRun port_transition IsReached settings all now)
+    -- a session that began at this place
+    abbrev pub Reached : ℕ → SessionView × QuotaPortsView P → Type 0
+    Reached place now = (h : IsSessionOfRun port_transition IsReached settings all now) × (h.place ≡ place)
         × IsCut port_transition (run_limits settings) settings.turns h.history now
 
-    abbrev pub Served : SessionView × QuotaPortsView P → Type 0
-    Served now = (h : IsServed port_transition settings all now)
+    abbrev pub Served : ℕ → SessionView × QuotaPortsView P → Type 0
+    Served place now = (h : IsServed port_transition settings all now) × (h.place ≡ place)
         × IsCut port_transition (run_limits settings) settings.turns h.history now
 
-    abbrev Gone : SystemCall P → Type 0
+    abbrev pub Gone : SystemCall P → Type 0
     Gone = RetiresClosed port_transition settings all
 
-    still : (now : SessionView × QuotaPortsView P) → Served now → Held now
-    still now h = (
+    pub still : (place : ℕ) (now : SessionView × QuotaPortsView P) → Served place now → Reached place now
+    still place now h = (
       record {
+        place = h.0.place;
         ports = h.0.ports;
         came = h.0.came;
         history = h.0.history;
@@ -228,17 +213,11 @@ module _ {P : Type 0} (port_transition : P → PortCall → P → Type 0) (setti
         stands = h.0.stands.1.whole;
       },
       h.1,
+      h.2,
     )
 
-    -- before the turns of a round: a session whose last turn made no progress had one, so it is served
-    abbrev IsRested : SessionView × QuotaPortsView P → Type 0
-    IsRested now = Held now × (now.1.made_progress ≡ false → Served now)
-
-    rested : (now : SessionView × QuotaPortsView P) → Served now → IsRested now
-    rested now h = (still now h, λ still. h)
-
-    begun : (a b : SessionView × QuotaPortsView P) → IsBegun (Meters port_transition) a b → Held a → Held b
-    begun a b t h =
+    begun : (place : ℕ) (a b : SessionView × QuotaPortsView P) → IsBegun (Meters port_transition) a b → Reached place a → Reached place b
+    begun place a b t h =
         let own = h.0 in
         let longer = own.history ++ TurnBegins ∷ [] in
         let stands : IsReached (run_limits settings) longer b.0 =
@@ -246,6 +225,7 @@ module _ {P : Type 0} (port_transition : P → PortCall → P → Type 0) (setti
         (relays_append (untouched (run_limits settings)) own.history a.0 (TurnBegins ∷ []) a.0 own.stands
         (turn_begins a.0)) in (
           record {
+            place = own.place;
             ports = own.ports;
             came = own.came;
             history = longer;
@@ -253,19 +233,21 @@ module _ {P : Type 0} (port_transition : P → PortCall → P → Type 0) (setti
                 own.answered (b.1, t.1, refl);
             stands = stands;
           },
+          h.1,
           cut_begun port_transition (run_limits settings) settings.turns own.history own.ports a b t own.answered own.stands.sends
               stands.sends
-              h.1,
+              h.2,
         )
 
-    turned : (a b : SessionView × QuotaPortsView P) → IsTurned (Meters port_transition) a b → Held a → Served b
-    turned a b t h =
+    turned : (place : ℕ) (a b : SessionView × QuotaPortsView P) → IsTurned (Meters port_transition) a b → Reached place a → Served place b
+    turned place a b t h =
         let own = h.0 in
         let stands : IsServedSession (run_limits settings) (own.history ++ t.exchange.call) b.0 = (
           t.exchange.session.headline (run_limits settings) own.history own.stands.sends,
           t.exchange.session.totals (run_limits settings) own.history own.stands,
         ) in (
           record {
+            place = own.place;
             ports = own.ports;
             came = own.came;
             history = own.history ++ t.exchange.call;
@@ -273,287 +255,367 @@ module _ {P : Type 0} (port_transition : P → PortCall → P → Type 0) (setti
                 own.answered t.exchange.ports;
             stands = stands;
           },
+          h.1,
           cut_turn port_transition (run_limits settings) settings.turns own.history own.ports a b t own.answered own.stands.sends
-              stands.0.sends h.1,
+              stands.0.sends h.2,
         )
 
-    -- a visit serves a session: it has turns, or had one before
-    visited : (mid : HubView (QuotaPortsView P)) (i : ℕ) (calls : List (SystemCall P)) (new : HubView (QuotaPortsView P)) →
-        All IsRested mid.places → VisitsPlace port_transition mid i calls new →
-        (now : SessionView × QuotaPortsView P) × Served now × Gets mid i now new
-    visited mid i calls new each v = by v.place.1.made_progress v.due refl v.looks v.turns
-      where
-        own : IsRested v.place
-        own =
-            subst IsRested (get_or_from_slice_get mid.places i v.place v.place v.there)
-            (each i v.place (slice_get_within mid.places i v.place v.there))
+    -- a turn serves its session
+    turn_serves : (old : SlabView (QuotaPortsView P)) (place : ℕ) (answers : List (SystemCall P))
+        (new : SlabView (QuotaPortsView P)) → IfHeldAt old.places place (Reached place) →
+        TakesTurn port_transition old place answers new → IfHeldAt new.places place (Served place)
+    turn_serves old place answers new before h =
+        let first = begun place h.begins.0 h.begins.1 h.begins.4.0 (before h.begins.0 h.begins.2) in
+        let there = changed_there (OpensTurn port_transition place answers) old place h.begun h.begins in
+        let same : h.begins.1 ≡ h.runs.0 = cc (sym there ∙ h.runs.2) in
+        held_here new place h.runs.1 (Served place) (changed_there (IsTurned (Meters port_transition)) h.begun place new h.runs)
+        (turned place h.runs.0 h.runs.1 h.runs.4 (subst (Reached place) same first))
 
-        by : (moved due : Bool) → v.place.1.made_progress ≡ moved → IsDueBy moved v.place.1.ports v.report due →
-            TakesTurns port_transition due (most_turns (is_calm v.place.1)) mid i v.turn new →
-            (now : SessionView × QuotaPortsView P) × Served now × Gets mid i now new
-        by moved true e looks takes =
-            let last = some_turns port_transition Held (λ old mid new b t h. still new (turned mid new t (begun old mid b h)))
-            (most_turns (is_calm v.place.1)) mid i v.turn new v.place
-            (some_most port_transition (is_calm v.place.1)) v.there own.0 takes in (
-              last.place,
-              turned last.turned.begun last.place last.turned.turned
-                  (begun last.before last.turned.begun last.turned.begins last.keeps),
-              last.gets,
-            )
-        by false false e looks stays = (v.place, own.1 e, gets_own i mid new v.place v.there stays.1)
-        by true false e looks stays = let due = looks.1 in absurd (cc)
+    -- and so do its turns, one at least
+    turns_reach : (n : ℕ) (old : SlabView (QuotaPortsView P)) (place : ℕ) (answers : List (SystemCall P))
+        (new : SlabView (QuotaPortsView P)) → IfHeldAt old.places place (Reached place) →
+        TurnsInRow port_transition n old place answers new → IfHeldAt new.places place (Reached place)
+    turns_reach zero old place answers new before h =
+        subst (λ (s : SlabView (QuotaPortsView P)). IfHeldAt s.places place (Reached place)) (sym h.1) before
+    turns_reach (suc n) old place answers new before h =
+        λ held at. still place held
+        (turn_serves h.0 place h.2 new (turns_reach n old place h.1 h.0 before h.4) h.6 held at)
 
-    all_turned : (old : HubView (QuotaPortsView P)) (answers : List (SystemCall P)) (new : HubView (QuotaPortsView P)) →
-        TurnsAll port_transition old answers new → All IsRested old.places →
-        All Served new.places × (new.limits ≡ old.limits) × (length new.places ≡ length old.places)
-    all_turned old answers new run h =
-        all_visited port_transition answers IsRested Served rested (λ mid i calls now within each v. visited mid i calls now each v)
-        old new h run
+    pub turns_serve : (n : ℕ) (old : SlabView (QuotaPortsView P)) (place : ℕ) (answers : List (SystemCall P))
+        (new : SlabView (QuotaPortsView P)) → 0 < n → IfHeldAt old.places place (Reached place) →
+        TurnsInRow port_transition n old place answers new → IfHeldAt new.places place (Served place)
+    turns_serve zero old place answers new some before h = absurd (omega (arith, some))
+    turns_serve (suc n) old place answers new some before h =
+        turn_serves h.0 place h.2 new (turns_reach n old place h.1 h.0 before h.4) h.6
 
-    -- ---- bots are accepted
-
-    admitted : (b : Bool) (old : AdmissionCounters) (answers : List (SystemCall P)) (new : AdmissionCounters) → AdmitsWhere b old answers new →
-        All Gone answers × (new.turns ≡ old.turns)
-    admitted true old answers new h =
-        (All-same Gone answers (Accepts h.0 ∷ []) h.1 (All-cons Gone (Accepts h.0) [] tt (All-nil Gone)), of h.0 h.2)
-      where
-        of : (came : Bool) → new ≡ come came old → new.turns ≡ old.turns
-        of true e = ap (λ (t : AdmissionCounters). t.turns) e
-        of false e = ap (λ (t : AdmissionCounters). t.turns) e
-    admitted false old answers new h =
-        (All-same Gone answers [] h.0 (All-nil Gone), ap (λ (t : AdmissionCounters). t.turns) h.1)
-
-    -- ---- a connect completes or fails
-
-    record Met (old : HubView (QuotaPortsView P)) (old_counters : AdmissionCounters) (answers : List (SystemCall P)) (new : HubView (QuotaPortsView P))
-        (new_counters : AdmissionCounters) : Type 0 where
-      gone : All Gone answers
-      held : All IsRested new.places
-      limits : new.limits ≡ old.limits
-      turns : new_counters.turns ≡ old_counters.turns
-
-    connected : (b : Bool) (old : HubView (QuotaPortsView P)) (counters : AdmissionCounters) (answers : List (SystemCall P))
-        (new : HubView (QuotaPortsView P)) (new_counters : AdmissionCounters) →
-        ((ports : P) → Contains answers (Connects (Ready ports)) → Contains all (Connects (Ready ports))) →
-        old.limits ≡ run_limits settings → counters.turns ≡ settings.turns → All IsRested old.places →
-        MeetsWhere b old counters answers new new_counters → Met old counters answers new new_counters
-    connected true old counters answers new new_counters within limits turns h m = record {
-      gone = All-same Gone answers [] m.0 (All-nil Gone);
-      held = subst (λ (k : HubView (QuotaPortsView P)). All IsRested k.places) (sym m.1) h;
-      limits = ap (λ (k : HubView (QuotaPortsView P)). k.limits) m.1;
-      turns = ap (λ (t : AdmissionCounters). t.turns) m.2;
-    }
-    connected false old counters answers new new_counters within limits turns h m = by m.0 m.1 m.2 m.3
-      where
-        by : (connect : Connect P) (told : List (SystemCall P)) → answers ≡ Connects connect ∷ told →
-            MeetsBy connect old counters told new new_counters → Met old counters answers new new_counters
-        by (Ready ports) told e m =
-            let one : answers ≡ Connects (Ready ports) ∷ [] =
-            e ∙ ap (λ (l : List (SystemCall P)). Connects (Ready ports) ∷ l) m.0 in
-            let stands = new_stands (run_limits settings) m.1.0 (subst (λ (l : Limits). IsNew l m.1.0) limits m.1.1) in
-            let own : IsSessionOfRun port_transition IsReached settings all (m.1.0, fresh ports counters.turns) = record {
-              ports = ports;
-              came = within ports (subst (λ (l : List (SystemCall P)). Contains l (Connects (Ready ports))) (sym one)
-                  (0, omega arith, refl));
-              history = [];
-              answered = ap (fresh ports) turns;
-              stands = stands;
-            } in
-            let place : Held (m.1.0, fresh ports counters.turns) = (
-              own,
-              subst (λ (n : ℕ). IsCut port_transition (run_limits settings) settings.turns [] (m.1.0, fresh ports n)) (sym turns)
-                  (cut_begins port_transition (run_limits settings) settings.turns m.1.0 ports stands.sends),
-            ) in
-            let first : IsRested (m.1.0, fresh ports counters.turns) = (place, λ still. absurd (cc)) in
-            record {
-              gone = All-same Gone answers (Connects (Ready ports) ∷ []) one
-                  (All-cons Gone (Connects (Ready ports)) [] tt (All-nil Gone));
-              held = subst (λ (k : HubView (QuotaPortsView P)). All IsRested k.places) (sym m.1.2)
-                  (All-push IsRested old.places (m.1.0, fresh ports counters.turns) h first);
-              limits = ap (λ (k : HubView (QuotaPortsView P)). k.limits) m.1.2;
-              turns = ap (λ (t : AdmissionCounters). t.turns) m.2;
-            }
-        by Failed told e m =
-            let two : answers ≡ Connects Failed ∷ Notifies CannotReach ∷ [] =
-            e ∙ ap (λ (l : List (SystemCall P)). Connects Failed ∷ l) m.0 in
-            record {
-              gone = All-same Gone answers (Connects Failed ∷ Notifies CannotReach ∷ []) two
-                  (All-cons Gone (Connects Failed) (Notifies CannotReach ∷ []) tt
-                  (All-cons Gone (Notifies CannotReach) [] tt (All-nil Gone)));
-              held = subst (λ (k : HubView (QuotaPortsView P)). All IsRested k.places) (sym m.1) h;
-              limits = ap (λ (k : HubView (QuotaPortsView P)). k.limits) m.1;
-              turns = ap (λ (t : AdmissionCounters). t.turns) m.2;
-            }
-        by Pending told e m =
-            let one : answers ≡ Connects Pending ∷ [] =
-            e ∙ ap (λ (l : List (SystemCall P)). Connects Pending ∷ l) m.0 in
-            record {
-              gone = All-same Gone answers (Connects Pending ∷ []) one
-                  (All-cons Gone (Connects Pending) [] tt (All-nil Gone));
-              held = subst (λ (k : HubView (QuotaPortsView P)). All IsRested k.places) (sym m.1) h;
-              limits = ap (λ (k : HubView (QuotaPortsView P)). k.limits) m.1;
-              turns = ap (λ (t : AdmissionCounters). t.turns) m.2;
-            }
-
-    -- ---- closed sessions are removed
-
-    spoken : (b : Bool) → All Gone (last_words b)
-    spoken true = All-cons Gone (Notifies TurnsSpent) [] tt (All-nil Gone)
-    spoken false = All-nil Gone
+    -- ---- the end of a session
 
     some_ending : (o : Option Ending) → is_some o ≡ true → (ending : Ending) × (o ≡ Some ending)
     some_ending None e = absurd (cc)
     some_ending (Some ending) e = (ending, refl)
 
     -- the reported end of a session is its own
-    ended : (place : SessionView × QuotaPortsView P) → is_closed place.0 ≡ true → (h : Served place) →
+    ended : (place : SessionView × QuotaPortsView P) → is_closed place.0 ≡ true → (n : ℕ) (h : Served n place) →
         IsEndOf (run_limits settings) settings.turns h.0.history place.0 (end_of place)
-    ended place closed h =
+    ended place closed n h =
         let stands = h.0.stands.0.sends in
         let told = ending_known place.0.state.phase in
         let over = closed_over (is_over place.0.state.phase) _ closed in
         let own = some_ending (ending_in place.0.state.phase) (told ∙ over) in (
-          h.1.effects,
-          h.1.state,
-          h.1.run,
-          ap (cause_by place.1.first_synthetic_end) own.1 ∙ cut_cause h.1.state place.0.state place.1.first_synthetic_end own.0 h.1.cut own.1,
+          h.2.effects,
+          h.2.state,
+          h.2.run,
+          ap (cause_by place.1.first_synthetic_end) own.1 ∙ cut_cause h.2.state place.0.state place.1.first_synthetic_end own.0 h.2.cut own.1,
           refl,
-          cut_field h.1.state place.0.state place.1.first_synthetic_end h.1.cut,
+          cut_field h.2.state place.0.state place.1.first_synthetic_end h.2.cut,
         )
 
-    parted : (b : Bool) (place : SessionView × QuotaPortsView P) → is_closed place.0 ≡ b → Served place →
-        All Gone (retirement_where b place)
-    parted true place e h =
-        All-push Gone (last_words (is_none place.1.turns_left)) (Retires place.1.ports (end_of place))
-        (spoken (is_none place.1.turns_left)) (place, refl, e, (h.0, ended place e h))
-    parted false place e h = All-nil Gone
 
-    all_parted : (places : List (SessionView × QuotaPortsView P)) → All Served places → All Gone (retirements places)
-    all_parted [] h = All-nil Gone
-    all_parted (place ∷ places) h =
-        All-append Gone (retirements places) (retirement place) (all_parted places (All-tail Served place places h))
-        (parted (is_closed place.0) place refl (All-head Served place places h))
+    spoken : (b : Bool) → All Gone (last_words b)
+    spoken true = All-cons Gone (Notifies TurnsSpent) [] tt (All-nil Gone)
+    spoken false = All-nil Gone
 
-    waited : (made_progress : Bool) → All Gone (wait_where made_progress)
-    waited true = All-nil Gone
-    waited false = All-cons Gone Waits [] tt (All-nil Gone)
+    parted : (place : ℕ) (now : SessionView × QuotaPortsView P) → is_closed now.0 ≡ true → Served place now →
+        All Gone (parting place now.1 (end_of now))
+    parted place now e h =
+        All-push Gone (last_words (is_none now.1.turns_left)) (Retires place now.1.ports (end_of now))
+        (spoken (is_none now.1.turns_left)) (now, refl, e, (h.0, h.1, ended now e place h))
+
+    -- ---- a visit
+
+    -- each session is served, and so are those that were retired
+    pub record Serves (answers : List (SystemCall P)) (old new : ServiceView P) : Type 0 where
+      pub limits : new.slab.limits ≡ old.slab.limits
+      pub held : (place : ℕ) → IfHeldAt new.slab.places place (Served place)
+      pub gone : All Gone answers
+
+    abbrev pub AllServed : ServiceView P → Type 0
+    AllServed run = (place : ℕ) → IfHeldAt run.slab.places place (Served place)
+
+    stays : (old new : ServiceView P) → AllServed old → new.slab ≡ old.slab → AllServed new
+    stays old new held e =
+        subst (λ (s : SlabView (QuotaPortsView P)). (place : ℕ) → IfHeldAt s.places place (Served place)) (sym e) held
+
+    left : (is : Bool) (now : SessionView × QuotaPortsView P) (old : ServiceView P) (place : ℕ) (answers : List (SystemCall P))
+        (new : ServiceView P) → is_closed now.0 ≡ is → IsAt old.slab place (Held now) → AllServed old →
+        LeavesVisit is now old place answers new → Serves answers old new
+    left true now old place answers new e at held h =
+        let slab = ap (λ (s : ServiceView P). s.slab) h.1 in
+        let free : IsAt new.slab place Free =
+        ap (λ (s : SlabView (QuotaPortsView P)). slice_get s.places place) slab ∙ get_set old.slab.places place Free (Held now) at in
+        let only = one_there place old.slab new.slab Free slab in
+        record {
+          limits = only.limits;
+          held = each_held place old.slab new.slab Served only held (none_here new.slab place (Served place) free);
+          gone = All-same Gone answers (parting place now.1 (end_of now)) h.0 (parted place now e (held place now at));
+        }
+    left false now old place answers new e at held h =
+        let slab = ap (λ (s : ServiceView P). s.slab) h.2 ∙ by h.0 in
+        record {
+          limits = ap (λ (s : SlabView (QuotaPortsView P)). s.limits) slab;
+          held = stays old new held slab;
+          gone = all_rests port_transition Gone place (λ ports rests. tt) now.1.made_progress now.1.ports answers h.0 h.1;
+        }
+      where
+        by : (rests : Bool) → (if rests then old else queued_again old place).slab ≡ old.slab
+        by true = refl
+        by false = refl
+
+    -- the session at a place may have had no turn yet
+    abbrev AllServedBut : ℕ → ServiceView P → Type 0
+    AllServedBut place run = ((other : ℕ) → other ≢ place → IfHeldAt run.slab.places other (Served other))
+        × IfHeldAt run.slab.places place (Reached place)
+
+    given_turns : (old : ServiceView P) (place turns : ℕ) (answers : List (SystemCall P)) (new : ServiceView P) →
+        AllServedBut place old → TurnsAndLeaves port_transition old place turns answers new → Serves answers old new
+    given_turns old place turns answers new held h =
+        let mid : ServiceView P = record old { slab = h.turned } in
+        let made = h.takes.made in
+        let only = turns_there_only port_transition turns old.slab place h.turning h.turned made in
+        let here = turns_serve turns old.slab place h.turning h.turned h.takes.some held.1 made in
+        let goes = left (is_closed h.now.0) h.now mid place h.leaving new refl h.there (each only here) h.leaves in
+        record {
+          limits = goes.limits ∙ only.limits;
+          held = goes.held;
+          gone = All-same Gone answers (h.turning ++ h.leaving) h.asked
+              (All-append Gone h.turning h.leaving
+              (all_turns port_transition Gone place (λ before after. tt) turns old.slab h.turning h.turned made) goes.gone);
+        }
+      where
+        each : ChangesOnlyAt place old.slab h.turned → IfHeldAt h.turned.places place (Served place) →
+            (other : ℕ) → IfHeldAt h.turned.places other (Served other)
+        each only here other = by (other == place) refl
+          where
+            by : (same : Bool) → (other == place) ≡ same → IfHeldAt h.turned.places other (Served other)
+            by true e = subst (λ (n : ℕ). IfHeldAt h.turned.places n (Served n)) (sym (eqb-true other place e)) here
+            by false e =
+                let apart = eqb-false other place e in
+                λ now at. held.0 other apart now (sym (only.beside other apart) ∙ at)
+
+    -- a session in its opening state, with the ports that a connect delivered
+    pub opened_reached : (old : ServiceView P) (place : ℕ) (ports : P) (opened : SessionView) →
+        old.slab.limits ≡ run_limits settings → old.counters.turns ≡ settings.turns → IsNew old.slab.limits opened →
+        Contains all (Connects place (Ready ports)) → Reached place (opened, fresh ports old.counters.turns)
+    opened_reached old place ports opened limits quota new came =
+        let stands = new_stands (run_limits settings) opened (subst (λ (l : Limits). IsNew l opened) limits new) in (
+          record {
+            place = place;
+            ports = ports;
+            came = came;
+            history = [];
+            answered = ap (fresh ports) quota;
+            stands = stands;
+          },
+          refl,
+          subst (λ (n : ℕ). IsCut port_transition (run_limits settings) settings.turns [] (opened, fresh ports n)) (sym quota)
+              (cut_begins port_transition (run_limits settings) settings.turns opened ports stands.sends),
+        )
+
+    visit_serves : (at : Option (SlabPlace (SessionView × QuotaPortsView P))) (old : ServiceView P) (place turns : ℕ)
+        (answers : List (SystemCall P)) (new : ServiceView P) → slice_get old.slab.places place ≡ at →
+        ((n : ℕ) (ports : P) → Contains answers (Connects n (Ready ports)) → Contains all (Connects n (Ready ports))) →
+        old.slab.limits ≡ run_limits settings → old.counters.turns ≡ settings.turns → AllServed old →
+        VisitsBy port_transition at old place turns answers new → Serves answers old new
+    visit_serves None old place turns answers new there within limits quota held h =
+        let slab = ap (λ (s : ServiceView P). s.slab) h.2 in
+        record {
+          limits = ap (λ (s : SlabView (QuotaPortsView P)). s.limits) slab;
+          held = stays old new held slab;
+          gone = All-same Gone answers [] h.1 (All-nil Gone);
+        }
+    visit_serves (Some Free) old place turns answers new there within limits quota held h =
+        let slab = ap (λ (s : ServiceView P). s.slab) h.2 in
+        record {
+          limits = ap (λ (s : SlabView (QuotaPortsView P)). s.limits) slab;
+          held = stays old new held slab;
+          gone = All-same Gone answers [] h.1 (All-nil Gone);
+        }
+    visit_serves (Some Kept) old place turns answers new there within limits quota held h = by h.0 h.1 h.2 h.3
+      where
+        by : (connect : Connect P) (told : List (SystemCall P)) → answers ≡ Connects place connect ∷ told →
+            MeetsBy port_transition connect old place turns told new → Serves answers old new
+        by (Ready ports) told e m =
+            let opens = m.1 in
+            let now : SessionView × QuotaPortsView P = (opens.0, fresh ports old.counters.turns) in
+            let only = one_there place old.slab m.0 (Held now) opens.2 in
+            let at : IsAt m.0 place (Held now) =
+            ap (λ (s : SlabView (QuotaPortsView P)). slice_get s.places place) opens.2
+            ∙ get_set old.slab.places place (Held now) Kept there in
+            let first = opened_reached old place ports opens.0 limits quota opens.1
+            (within place ports (subst (λ (l : List (SystemCall P)). Contains l (Connects place (Ready ports))) (sym e)
+            (0, omega arith, refl))) in
+            let goes = given_turns (record old { slab = m.0 }) place turns told new
+            ((λ other apart held_there found. held other held_there (sym (only.beside other apart) ∙ found)),
+            held_here m.0 place now (Reached place) at first) m.2 in
+            record {
+              limits = goes.limits ∙ only.limits;
+              held = goes.held;
+              gone = All-same Gone answers (Connects place (Ready ports) ∷ told) e
+                  (All-cons Gone (Connects place (Ready ports)) told tt goes.gone);
+            }
+        by Failed told e m =
+            let slab = ap (λ (s : ServiceView P). s.slab) m.2 in
+            let free : IsAt new.slab place Free =
+            ap (λ (s : SlabView (QuotaPortsView P)). slice_get s.places place) slab ∙ get_set old.slab.places place Free Kept there in
+            let only = one_there place old.slab new.slab Free slab in
+            record {
+              limits = only.limits;
+              held = each_held place old.slab new.slab Served only held (none_here new.slab place (Served place) free);
+              gone = All-same Gone answers (Connects place Failed ∷ Notifies CannotReach ∷ [])
+                  (e ∙ ap (λ (l : List (SystemCall P)). Connects place Failed ∷ l) m.1)
+                  (All-cons Gone (Connects place Failed) (Notifies CannotReach ∷ []) tt
+                  (All-cons Gone (Notifies CannotReach) [] tt (All-nil Gone)));
+            }
+        by Pending told e m =
+            let slab = ap (λ (s : ServiceView P). s.slab) m.2 in
+            record {
+              limits = ap (λ (s : SlabView (QuotaPortsView P)). s.limits) slab;
+              held = stays old new held slab;
+              gone = All-same Gone answers (Connects place Pending ∷ [])
+                  (e ∙ ap (λ (l : List (SystemCall P)). Connects place Pending ∷ l) m.1)
+                  (All-cons Gone (Connects place Pending) [] tt (All-nil Gone));
+            }
+    visit_serves (Some (Held now)) old place turns answers new there within limits quota held h =
+        given_turns old place turns answers new
+        ((λ other apart. held other), (λ own at. still place own (held place own at))) h
+
+    pub visits_serve : (visited : List ℕ) (turns : ℕ) (old : ServiceView P) (answers : List (SystemCall P)) (new : ServiceView P) →
+        ((n : ℕ) (ports : P) → Contains answers (Connects n (Ready ports)) → Contains all (Connects n (Ready ports))) →
+        old.slab.limits ≡ run_limits settings → old.counters.turns ≡ settings.turns → AllServed old →
+        Visits port_transition visited turns old answers new → Serves answers old new
+    visits_serve [] turns old answers new within limits quota held h =
+        let slab = ap (λ (s : ServiceView P). s.slab) h.2 in
+        record {
+          limits = ap (λ (s : SlabView (QuotaPortsView P)). s.limits) slab;
+          held = stays old new held slab;
+          gone = All-same Gone answers [] h.1 (All-nil Gone);
+        }
+    visits_serve (place ∷ earlier) turns old answers new within limits quota held h =
+        let before = visits_serve earlier h.1 old h.3 h.0
+        (λ n ports c. within n ports (subst (λ (l : List (SystemCall P)). Contains l (Connects n (Ready ports))) (sym h.6)
+        (Contains-append_left h.3 h.4 (Connects n (Ready ports)) c))) limits quota held h.7 in
+        let mid : ServiceView P = record h.0 { ready = h.8.ready } in
+        let last = visit_serves (slice_get mid.slab.places place) mid place h.2 h.4 new refl
+        (λ n ports c. within n ports (subst (λ (l : List (SystemCall P)). Contains l (Connects n (Ready ports))) (sym h.6)
+        (Contains-append_right h.3 h.4 (Connects n (Ready ports)) c))) (before.limits ∙ limits)
+        (ap (λ (c : AdmissionCounters). c.turns) (visits_counters port_transition earlier h.1 old h.3 h.0 h.7) ∙ quota)
+        before.held h.8.visits in
+        record {
+          limits = last.limits ∙ before.limits;
+          held = last.held;
+          gone = All-same Gone answers (h.3 ++ h.4) h.6 (All-append Gone h.3 h.4 before.gone last.gone);
+        }
+
+    -- ---- a bot is accepted
+
+    admitted : (old : ServiceView P) (answers : List (SystemCall P)) (new : ServiceView P) → AllServed old →
+        Admits old answers new → Serves answers old new
+    admitted old answers new held (inr none) =
+        let slab = ap (λ (s : ServiceView P). s.slab) none.2 in
+        record {
+          limits = ap (λ (s : SlabView (QuotaPortsView P)). s.limits) slab;
+          held = stays old new held slab;
+          gone = All-same Gone answers [] none.1 (All-nil Gone);
+        }
+    admitted old answers new held (inl asks) = by asks.came asks.asked asks.then_kept
+      where
+        by : (came : Bool) → answers ≡ Accepts asks.place came ∷ [] →
+            new ≡ (if came then accepted_at old asks.place else old) → Serves answers old new
+        by true e kept =
+            let slab = ap (λ (s : ServiceView P). s.slab) kept in
+            let at : IsAt new.slab asks.place Kept =
+            ap (λ (s : SlabView (QuotaPortsView P)). slice_get s.places asks.place) slab
+            ∙ get_set old.slab.places asks.place Kept Free asks.free in
+            let only = one_there asks.place old.slab new.slab Kept slab in
+            record {
+              limits = only.limits;
+              held = each_held asks.place old.slab new.slab Served only held (λ own found. absurd (cc (sym at ∙ found)));
+              gone = All-same Gone answers (Accepts asks.place true ∷ []) e
+                  (All-cons Gone (Accepts asks.place true) [] tt (All-nil Gone));
+            }
+        by false e kept =
+            let slab = ap (λ (s : ServiceView P). s.slab) kept in
+            record {
+              limits = ap (λ (s : SlabView (QuotaPortsView P)). s.limits) slab;
+              held = stays old new held slab;
+              gone = All-same Gone answers (Accepts asks.place false ∷ []) e
+                  (All-cons Gone (Accepts asks.place false) [] tt (All-nil Gone));
+            }
+
+  admitted_turns : (old : ServiceView P) (answers : List (SystemCall P)) (new : ServiceView P) → Admits old answers new →
+      new.counters.turns ≡ old.counters.turns
+  admitted_turns old answers new (inr none) = ap (λ (s : ServiceView P). s.counters.turns) none.2
+  admitted_turns old answers new (inl asks) = ap (λ (s : ServiceView P). s.counters.turns) asks.then_kept ∙ by asks.came
+    where
+      by : (came : Bool) → (if came then accepted_at old asks.place else old).counters.turns ≡ old.counters.turns
+      by true = refl
+      by false = refl
 
   -- ---- rounds
 
   -- an order changes no number of turns
-  heeded_turns : (stops : Bool) (counters : AdmissionCounters) →
+  pub heeded_turns : (stops : Bool) (counters : AdmissionCounters) →
       (if stops then closed counters else counters).turns ≡ counters.turns
   heeded_turns true counters = refl
   heeded_turns false counters = refl
 
   -- the invariant between the rounds of a run
   pub record Keeps (answers : List (SystemCall P)) (run : ServiceView P) : Type 0 where
-    pub limits : run.hub.limits ≡ run_limits settings
+    pub limits : run.slab.limits ≡ run_limits settings
     pub turns : run.counters.turns ≡ settings.turns
-    pub held : All (Served answers) run.hub.places
+    pub held : (place : ℕ) → IfHeldAt run.slab.places place (Served answers place)
     pub gone : All (RetiresClosed port_transition settings answers) answers
-    pub balance : sum_over_calls connects answers ≡ length run.hub.places + sum_over_calls retires answers
-    pub counts : Counts answers (initial_service {P = P} settings).counters run.counters
+    pub counts : Counts answers (initial_service {P = P} settings) run
     pub limit : Limited settings answers run.counters
 
-  round_counts : (ys : List (SystemCall P)) (old new : ServiceView P) → Round port_transition old ys new →
-      Counts ys old.counters new.counters
+  round_counts : (ys : List (SystemCall P)) (old new : ServiceView P) → Round port_transition old ys new → Counts ys old new
   round_counts ys old new r =
-      let opens = opening r.orders old.hub.places in
-      let heeded = heeding r.orders old.counters in
-      let made_progress = any_progress r.admission || any_progress r.meeting || any_moved r.turned.places || any_progress r.removal
-      || is_done new in
-      let last = wait_where made_progress in
-      let removes : Counts r.removal new.counters new.counters =
-      subst (λ (l : List (SystemCall P)). Counts l new.counters new.counters) (sym r.removes.0)
-      (removal_counts r.turned.places new.counters) in
-      subst (λ (l : List (SystemCall P)). Counts l old.counters new.counters) (sym r.asked)
-      (counts_then (opens ++ r.admission ++ r.meeting ++ r.beginnings ++ r.removal) last old.counters new.counters new.counters
-      (counts_then (opens ++ r.admission ++ r.meeting ++ r.beginnings) r.removal old.counters new.counters new.counters
-      (counts_then (opens ++ r.admission ++ r.meeting) r.beginnings old.counters new.counters new.counters
-      (counts_then (opens ++ r.admission) r.meeting old.counters r.came new.counters
-      (counts_then opens r.admission old.counters heeded r.came (opening_counts r.orders old.hub.places old.counters)
-      (admission_counts (may_accept heeded (length old.hub.places)) heeded r.admission r.came r.admits))
-      (meeting_counts (r.came.connecting == 0) old.hub r.came r.meeting r.connected new.counters refl r.finishes))
-      (turns_count r.beginnings new.counters (turns_only port_transition (length r.connected.places) r.turns.0 r.connected r.beginnings r.turned r.turns.1)))
-      removes)
-      (wait_counts made_progress new.counters))
+      let opens = opening r.woken r.orders old in
+      let start = polled r.woken r.orders old in
+      counts_then ys (opens ++ r.visiting) r.admission old r.mid new r.asked
+      (counts_then (opens ++ r.visiting) opens r.visiting old start r.mid refl (opening_counts r.woken r.orders old)
+      (visits_counts port_transition r.visits.visited r.visits.turns start r.visiting r.mid r.visits.takes))
+      (admission_counts r.mid r.admission new r.admits)
 
   round_serves : (xs ys : List (SystemCall P)) (old new : ServiceView P) → Keeps xs old → Round port_transition old ys new →
       Keeps (xs ++ ys) new
   round_serves xs ys old new h r =
       let all = xs ++ ys in
-      let opens = opening r.orders old.hub.places in
-      let heeded = heeding r.orders old.counters in
-      let made_progress = any_progress r.admission || any_progress r.meeting || any_moved r.turned.places || any_progress r.removal
-      || is_done new in
-      let last = wait_where made_progress in
-      let come = admitted all (may_accept heeded (length old.hub.places)) heeded r.admission r.came r.admits in
-      let kept = heeded_turns r.orders.stops_accepting old.counters in
-      let still_held : All (IsRested all) old.hub.places =
-      All-weaker (Served xs) (IsRested all) (λ now s. rested all now (later IsServedSession xs ys now s.0, s.1))
-      old.hub.places h.held in
-      let within : (ports : P) → Contains r.meeting (Connects (Ready ports)) → Contains all (Connects (Ready ports)) =
-      λ ports c. Contains-append_right xs ys (Connects (Ready ports))
-      (subst (λ (l : List (SystemCall P)). Contains l (Connects (Ready ports))) (sym r.asked)
-      (Contains-append_left (opens ++ r.admission ++ r.meeting ++ r.beginnings ++ r.removal) last (Connects (Ready ports))
-      (Contains-append_left (opens ++ r.admission ++ r.meeting ++ r.beginnings) r.removal (Connects (Ready ports))
-      (Contains-append_left (opens ++ r.admission ++ r.meeting) r.beginnings (Connects (Ready ports))
-      (Contains-append_right (opens ++ r.admission) r.meeting (Connects (Ready ports)) c))))) in
+      let opens = opening r.woken r.orders old in
+      let start = polled r.woken r.orders old in
+      let quota : start.counters.turns ≡ settings.turns = heeded_turns r.orders.stops_accepting old.counters ∙ h.turns in
+      let still_held : (place : ℕ) → IfHeldAt old.slab.places place (Served all place) =
+      λ place now at. (let s = h.held place now at in (later IsServedSession xs ys now s.0, s.1, s.2)) in
       let opened : All (Gone all) opens =
-      All-cons (Gone all) (Begins r.orders) (shows_where r.orders.shows_sessions old.hub.places) tt
-      (all_shown (Gone all) r.orders.shows_sessions old.hub.places (λ ports status. tt)) in
-      let connected = connected all (r.came.connecting == 0) old.hub r.came r.meeting r.connected new.counters within h.limits
-      (come.1 ∙ kept ∙ h.turns) still_held r.finishes in
-      let turned = all_turned all r.connected r.beginnings r.turned r.turns connected.held in
-      let only = turns_only port_transition (length r.connected.places) r.turns.0 r.connected r.beginnings r.turned r.turns.1 in
-      let hub = r.removes.1 in
+      All-cons (Gone all) (Polls _ r.woken r.orders) (shows_where r.orders.shows_sessions old.slab.places) tt
+      (all_shown port_transition (Gone all) r.orders.shows_sessions old.slab.places (λ ports status. tt)) in
+      let visited = visits_serve all r.visits.visited r.visits.turns start r.visiting r.mid
+      (λ n ports c. Contains-append_right xs ys (Connects n (Ready ports))
+      (subst (λ (l : List (SystemCall P)). Contains l (Connects n (Ready ports))) (sym r.asked)
+      (Contains-append_left (opens ++ r.visiting) r.admission (Connects n (Ready ports))
+      (Contains-append_right opens r.visiting (Connects n (Ready ports)) c)))) h.limits quota still_held r.visits.takes in
+      let admits = admitted all r.mid r.admission new visited.held r.admits in
       record {
-        counts = counts_then xs ys (initial_service {P = P} settings).counters old.counters new.counters h.counts
-            (round_counts ys old new r);
-        limit = limit_then port_transition settings xs ys old new h.limit r;
-        limits = ap (λ (k : HubView (QuotaPortsView P)). k.limits) hub ∙ turned.1 ∙ connected.limits ∙ h.limits;
-        turns = connected.turns ∙ come.1 ∙ kept ∙ h.turns;
-        held = subst (λ (k : HubView (QuotaPortsView P)). All (Served all) k.places) (sym hub)
-            (All-filter (λ place. not (is_closed place.0)) (Served all) r.turned.places turned.0);
+        limits = admits.limits ∙ visited.limits ∙ h.limits;
+        turns = admitted_turns r.mid r.admission new r.admits
+            ∙ ap (λ (c : AdmissionCounters). c.turns)
+            (visits_counters port_transition r.visits.visited r.visits.turns start r.visiting r.mid r.visits.takes) ∙ quota;
+        held = admits.held;
         gone = All-append (Gone all) xs ys
             (All-weaker (RetiresClosed port_transition settings xs) (Gone all) (gone_later xs ys) xs h.gone)
-            (All-same (Gone all) ys (opens ++ r.admission ++ r.meeting ++ r.beginnings ++ r.removal ++ last) r.asked
-            (All-append (Gone all) (opens ++ r.admission ++ r.meeting ++ r.beginnings ++ r.removal) last
-            (All-append (Gone all) (opens ++ r.admission ++ r.meeting ++ r.beginnings) r.removal
-            (All-append (Gone all) (opens ++ r.admission ++ r.meeting) r.beginnings
-            (All-append (Gone all) (opens ++ r.admission) r.meeting (All-append (Gone all) opens r.admission opened come.0)
-            connected.gone) (all_turns (Gone all) r.beginnings (λ ports news. tt) (λ before after. tt) (λ ports. tt) only))
-            (All-same (Gone all) r.removal (retirements r.turned.places) r.removes.0
-            (all_parted all r.turned.places turned.0)))
-            (waited all made_progress)));
-        balance =
-            let finishes = meeting_passes (r.came.connecting == 0) old.hub r.came r.meeting r.connected new.counters r.finishes in
-            let leaves = removal_passes r.turned.places in
-            let passes = passes_as ys (opens ++ r.admission ++ r.meeting ++ r.beginnings ++ r.removal ++ last)
-            (0 + finishes.0 + 0 + 0 + 0) (0 + 0 + 0 + leaves.0 + 0) r.asked
-            (passes_then (opens ++ r.admission ++ r.meeting ++ r.beginnings ++ r.removal) last (0 + finishes.0 + 0 + 0)
-            (0 + 0 + 0 + leaves.0) 0 0
-            (passes_then (opens ++ r.admission ++ r.meeting ++ r.beginnings) r.removal (0 + finishes.0 + 0) (0 + 0 + 0) 0
-            leaves.0
-            (passes_then (opens ++ r.admission ++ r.meeting) r.beginnings (0 + finishes.0) (0 + 0) 0 0
-            (passes_then (opens ++ r.admission) r.meeting 0 0 finishes.0 0
-            (passes_then opens r.admission 0 0 0 0 (opening_passes r.orders old.hub.places)
-            (admission_passes (may_accept heeded (length old.hub.places)) heeded r.admission r.came r.admits)) finishes.1)
-            (turns_pass r.beginnings only))
-            (passes_as r.removal (retirements r.turned.places) 0 leaves.0 r.removes.0 leaves.1))
-            (wait_passes made_progress)) in
-            let came = passes.came in
-            let went = passes.went in
-            let held = finishes.2 in
-            let same = turned.2 in
-            let left = leaves.2 in
-            let before = h.balance in
-            let now : length new.hub.places ≡ length (remaining r.turned.places) =
-            ap (λ (k : HubView (QuotaPortsView P)). length k.places) hub in
-            rw (counted_append connects xs ys, counted_append retires xs ys)
-            (omega (arith, came, went, held, same, left, before, now));
+            (All-same (Gone all) ys (opens ++ r.visiting ++ r.admission) r.asked
+            (All-append (Gone all) (opens ++ r.visiting) r.admission
+            (All-append (Gone all) opens r.visiting opened visited.gone) admits.gone));
+        counts = counts_then (xs ++ ys) xs ys (initial_service {P = P} settings) old new refl h.counts (round_counts ys old new r);
+        limit = limit_then port_transition settings xs ys old new h.limit r;
       }
+
+  free_place : (count : ℕ) (place : ℕ) (now : SessionView × QuotaPortsView P) →
+      slice_get (all_free {T = SessionView × QuotaPortsView P} count) place ≡ Some (Held now) → ⊥
+  free_place zero zero now e = cc
+  free_place zero (suc place) now e = cc
+  free_place (suc count) zero now e = cc
+  free_place (suc count) (suc place) now e = free_place count place now e
 
   pub rounds_serve : (n : ℕ) (answers : List (SystemCall P)) (run : ServiceView P) →
       Rounds port_transition n (initial_service settings) answers run → Keeps answers run
@@ -562,10 +624,9 @@ module _ {P : Type 0} (port_transition : P → PortCall → P → Type 0) (setti
       (subst (λ (r : ServiceView P). Keeps [] r) (sym h.1) (record {
         limits = refl;
         turns = refl;
-        held = All-nil (Served []);
+        held = λ place now at. absurd (free_place settings.max_sessions place now at);
         gone = All-nil (RetiresClosed port_transition settings []);
-        balance = refl;
-        counts = record { came = refl; connected = refl };
+        counts = record { came = refl; held = omega arith; met = omega arith };
         limit = first_limit settings;
       }))
   rounds_serve (suc n) answers run h =
@@ -573,45 +634,83 @@ module _ {P : Type 0} (port_transition : P → PortCall → P → Type 0) (setti
       (round_serves h.1 h.2 h.0 run (rounds_serve n h.1 h.0 h.4) h.6)
 
   -- the body requested for a session after these rounds is the longest of the settings
-  pub body_refused : (Refuses : ℕ → Type 0) (n : ℕ) (answers : List (SystemCall P)) (run : ServiceView P) →
-      Rounds port_transition n (initial_service settings) answers run → Refuses run.hub.limits.cap → Refuses settings.config.max_body
-  body_refused Refuses n answers run rounds refused =
-      subst (λ (l : Limits). Refuses l.cap) (rounds_serve n answers run rounds).limits refused
+  pub body_refused : (Refuses : ℕ → Type 0) (n : ℕ) (before : List (SystemCall P)) (run : ServiceView P) →
+      Rounds port_transition n (initial_service settings) before run → (answers : List (SystemCall P)) (new : ServiceView P) →
+      BreaksOff Refuses port_transition run answers new → Refuses settings.config.max_body
+  body_refused Refuses n before run rounds answers new breaks =
+      let kept = rounds_serve n before run rounds in
+      let visits = breaks.visits in
+      let all = before ++ visits.before in
+      let held : (place : ℕ) → IfHeldAt run.slab.places place (Served all place) =
+      λ place now at. (let s = kept.held place now at in (later IsServedSession before visits.before now s.0, s.1, s.2)) in
+      let served = visits_serve all visits.visited visits.turns (polled breaks.woken breaks.orders run) visits.before visits.mid
+      (λ place ports c. Contains-append_right before visits.before (Connects place (Ready ports)) c) kept.limits
+      (heeded_turns breaks.orders.stops_accepting run.counters ∙ kept.turns) held visits.takes in
+      subst (λ (l : Limits). Refuses l.cap) (served.limits ∙ kept.limits) visits.refuses.refused
 
-  nobody_left : (all none : Bool) (count : ℕ) → (all && (none && (count == 0))) ≡ true → count ≡ 0
-  nobody_left true true zero e = refl
-  nobody_left true true (suc count) e = let some = eqb-suc-zero count in absurd (cc)
-  nobody_left true false count e = absurd (cc)
-  nobody_left false none count e = absurd (cc)
+  both_true : (one other : Bool) → (one && other) ≡ true → (one ≡ true) × (other ≡ true)
+  both_true true other e = (refl, e)
+  both_true false other e = absurd (cc)
 
-  all_there : (all none : Bool) (count : ℕ) (accepted sessions connecting : ℕ) → (accepted == sessions) ≡ all →
-      (connecting == 0) ≡ none → (all && (none && (count == 0))) ≡ true → (accepted ≡ sessions) × (connecting ≡ 0)
-  all_there true true count accepted sessions connecting a b e = (eqb-true accepted sessions a, eqb-true connecting 0 b)
-  all_there true false count accepted sessions connecting a b e = absurd (cc)
-  all_there false none count accepted sessions connecting a b e = absurd (cc)
+  -- if each place is free, there is no session, and no connect is pending
+  nobody_left : (places : List (SlabPlace (SessionView × QuotaPortsView P))) → list_all is_free_place places ≡ true →
+      (count_by is_held places ≡ 0) × (count_by is_kept places ≡ 0)
+  nobody_left [] e = (refl, refl)
+  nobody_left (Free ∷ places) e =
+      let rest = nobody_left places e in
+      (count_first is_held Free places ∙ ap (λ n. 0 + n) rest.0, count_first is_kept Free places ∙ ap (λ n. 0 + n) rest.1)
+  nobody_left (Kept ∷ places) e = absurd (cc)
+  nobody_left (Held now ∷ places) e = absurd (cc)
+
+  free_places : (count : ℕ) → list_all is_free_place (all_free {T = SessionView × QuotaPortsView P} count) ≡ true
+  free_places zero = refl
+  free_places (suc count) = free_places count
 
   -- rounds until all were served are a whole run
   pub whole_run : (n : ℕ) (answers : List (SystemCall P)) (end : ServiceView P) →
       Rounds port_transition n (initial_service settings) answers end → is_done end ≡ true → IsWholeRun port_transition settings answers
   whole_run n answers end rounds done =
       let kept = rounds_serve n answers end rounds in
-      let empty = nobody_left (end.counters.accepted == end.counters.sessions) (end.counters.connecting == 0)
-      (length end.hub.places) done in
-      let there = all_there (end.counters.accepted == end.counters.sessions) (end.counters.connecting == 0)
-      (length end.hub.places) end.counters.accepted end.counters.sessions end.counters.connecting refl refl done in
-      let balance = kept.balance in
+      let over = both_true (have_all_come end.counters) (list_all is_free_place end.slab.places) done in
+      let none = nobody_left end.slab.places over.1 in
+      let first = nobody_left (all_free settings.max_sessions) (free_places settings.max_sessions) in
+      let all = eqb-true end.counters.accepted end.counters.sessions over.0 in
       let came = kept.counts.came in
-      let connected = kept.counts.connected in
-      let limit = kept.limit in
-      let few = limit.at_most in
-      let all = there.0 in
-      let none = there.1 in
+      let held = kept.counts.held in
+      let met = kept.counts.met in
+      let few = kept.limit.at_most in
+      let sessions = none.0 in
+      let pending = none.1 in
+      let first_sessions = first.0 in
+      let first_pending = first.1 in
       record {
         serves = (n, end, rounds, done);
         each = kept.gone;
-        none_lost = omega (arith, balance, empty);
-        all_came = λ none. (let sessions = limit.goes_on none in omega (arith, came, sessions, all));
+        none_lost = omega (arith, held, sessions, first_sessions);
+        all_came = λ none. (let most = kept.limit.goes_on none in omega (arith, came, most, all));
         at_most = omega (arith, came, few, all);
-        stops = limit.stops;
-        all_served = omega (arith, balance, empty, connected, none);
+        stops = kept.limit.stops;
+        all_served = omega (arith, held, met, sessions, pending, first_sessions, first_pending);
       }
+
+  -- the law, from the invariant
+  pub sessions_served : (n : ℕ) (answers : List (SystemCall P)) (run : ServiceView P) →
+      Rounds port_transition n (initial_service settings) answers run →
+      AreServed port_transition settings answers run × All (RetiresClosed port_transition settings answers) answers
+      × (sum_over_calls connects answers ≡ sessions_in run.slab + sum_over_calls retires answers)
+      × (run.counters.accepted ≡ sum_over_calls comes answers)
+      × (sum_over_calls comes answers ≡ pending_in run.slab + sum_over_calls connects answers + sum_over_calls unreached answers)
+  sessions_served n answers run rounds =
+      let kept = rounds_serve n answers run rounds in
+      let first = nobody_left (all_free settings.max_sessions) (free_places settings.max_sessions) in
+      let no_session = first.0 in
+      let none_pending = first.1 in
+      let came = kept.counts.came in
+      let held = kept.counts.held in
+      let met = kept.counts.met in (
+        (λ place now at. let s = kept.held place now at in (s.0, s.1)),
+        kept.gone,
+        omega (arith, held, no_session),
+        omega (arith, came),
+        omega (arith, met, none_pending),
+      )

@@ -1,41 +1,79 @@
--- The progress of a round, and the rounds of a run.
-use Rattle.std.proofs.Common.{◌≡◌, ℕ, zero, suc, ◌+◌, Bool, true, false, List, [], ◌∷◌, ◌++◌}
+-- The sessions that are shown, the visits of a round so far, and the rounds of a run.
+use Rattle.std.proofs.Common.{◌≡◌, ℕ, zero, suc, ◌+◌, Bool, true, false, List, [], ◌∷◌, ◌++◌, Option, Some, None}
 use Rattle.std.proofs.Common.{refl, ap, ◌∙◌, subst, add-one, take, arith, ◌<◌, inr, sym, Result, Ok, Err}
-use Rattle.std.specs.Prelude.{◌||◌, length, slice_get, IfSome, IfErr}
+use Rattle.std.specs.Prelude.{length, slice_get, IfErr}
 use Rattle.std.specs.Result.{IsErrAnd}
 use Rattle.daide_protocol.specs.Wires.{SessionView}
 use Rattle.daide_io.specs.Ports.{PortCall}
+use Rattle.daide_io.specs.ReadyQueue.{queued_places}
+use Rattle.daide_driver.specs.declared.place.SlabPlace.{SlabPlace}
+use Rattle.daide_driver.specs.declared.place.SlabPlace.TheVariants.{Free, Kept, Held}
+use Rattle.daide_driver.specs.Slab.{is_so, is_held}
 use Rattle.daide_event_loop.specs.QuotaPorts.{QuotaPortsView}
-use Rattle.daide_io.specs.System.{SystemCall, Shows, Waits, TransitsBy, status_of}
+use Rattle.daide_io.specs.System.{SystemCall, Shows, TransitsBy, status_of}
 use Rattle.daide_settings.specs.declared.settings.Settings.{Settings}
 use Rattle.daide_event_loop.specs.declared.serving.ServeFault.{ServeFault}
 use Rattle.daide_event_loop.specs.declared.serving.ServeFault.TheVariants as Faults
-use Rattle.daide_event_loop.specs.Serving.{ServiceView, shows, wait_where, Round, Rounds, is_done, initial_service}
+use Rattle.daide_event_loop.specs.Serving.{ServiceView, shows, Visits, VisitsNext, Round, Rounds, is_done, initial_service}
 use Rattle.daide_event_loop.specs.Serving.{BreaksOff, GivesUp}
 use Rattle.daide_event_loop.proofs.TransitLemmas.{transits_then}
 
+-- ---- sessions are shown
+
+module _ {P : Type 0} where
+  -- one more session is shown
+  pub show_more : (xs : List (SlabPlace (SessionView × QuotaPortsView P))) (i : ℕ) (now : SessionView × QuotaPortsView P) →
+      slice_get xs i ≡ Some (Held now) →
+      shows (take (suc i) xs) ≡ shows (take i xs) ++ Shows now.1.ports (status_of now.0 now.1.bytes) ∷ []
+  show_more [] zero now e = absurd (cc)
+  show_more [] (suc i) now e = absurd (cc)
+  show_more (Free ∷ xs) zero now e = absurd (cc)
+  show_more (Kept ∷ xs) zero now e = absurd (cc)
+  show_more (Held own ∷ xs) zero now e =
+      let same : own ≡ now = cc in
+      ap (λ (h : SessionView × QuotaPortsView P). Shows h.1.ports (status_of h.0 h.1.bytes) ∷ []) same
+  show_more (Free ∷ xs) (suc i) now e = show_more xs i now e
+  show_more (Kept ∷ xs) (suc i) now e = show_more xs i now e
+  show_more (Held own ∷ xs) (suc i) now e =
+      ap (λ (calls : List (SystemCall P)). Shows own.1.ports (status_of own.0 own.1.bytes) ∷ calls) (show_more xs i now e)
+
+  -- at a place without a session none is
+  pub show_none : (xs : List (SlabPlace (SessionView × QuotaPortsView P))) (i : ℕ) → is_so is_held (slice_get xs i) ≡ false →
+      shows (take (suc i) xs) ≡ shows (take i xs)
+  show_none [] zero e = refl
+  show_none [] (suc i) e = refl
+  show_none (Free ∷ xs) zero e = refl
+  show_none (Kept ∷ xs) zero e = refl
+  show_none (Held now ∷ xs) zero e = absurd (cc)
+  show_none (Free ∷ xs) (suc i) e = show_none xs i e
+  show_none (Kept ∷ xs) (suc i) e = show_none xs i e
+  show_none (Held now ∷ xs) (suc i) e =
+      ap (λ (calls : List (SystemCall P)). Shows now.1.ports (status_of now.0 now.1.bytes) ∷ calls) (show_none xs i e)
+
+-- ---- the visits of a round
+
+module _ {P S : Type 0} (port_transition : P → PortCall → P → Type 0) (transition : S → SystemCall P → S → Type 0) where
+  -- the visits so far
+  pub record Visited (first : S) (old : ServiceView P) (turns : ℕ) (now : ServiceView P) (system : S) : Type 0 where
+    pub visited : List ℕ
+    pub answers : List (SystemCall P)
+    pub transits : TransitsBy transition first answers system
+    pub visits : Visits port_transition visited turns old answers now
+
+  pub none_visited : (s : S) (old : ServiceView P) → Visited s old 0 old s
+  none_visited s old = record { visited = []; answers = []; transits = refl; visits = (refl, refl, refl) }
+
+  pub another_visit : (s t u : S) (old mid new : ServiceView P) (before place more : ℕ) → Visited s old before mid t →
+      (answers : List (SystemCall P)) → TransitsBy transition t answers u →
+      VisitsNext port_transition before mid place more answers new → Visited s old (before + more) new u
+  another_visit s t u old mid new before place more h answers goes visits = record {
+    visited = place ∷ h.visited;
+    answers = h.answers ++ answers;
+    transits = transits_then transition h.answers answers s t u h.transits goes;
+    visits = (mid, before, more, h.answers, answers, refl, refl, h.visits, visits);
+  }
+
 -- ---- rounds
-
-pub waits_alike : {P : Type 0} (a b c d e p q r s t : Bool) → a ≡ p → b ≡ q → c ≡ r → d ≡ s → e ≡ t →
-    wait_where {P = P} (a || b || c || d || e) ≡ wait_where (p || q || r || s || t)
-waits_alike a b c d e p q r s t h i j k l = rw (h, i, j, k, l) refl
-
--- one more session is shown
-pub show_more : {P : Type 0} (xs : List (SessionView × QuotaPortsView P)) (i : ℕ) (m : QuotaPortsView P)
-    (session : SessionView) → i < length xs → IfSome (slice_get xs i) (λ place. m ≡ place.1) →
-    IfSome (slice_get xs i) (λ place. session ≡ place.0) →
-    shows (take (suc i) xs) ≡ shows (take i xs) ++ Shows m.ports (status_of session m.bytes) ∷ []
-show_more {P = P} [] i m session lt h k = absurd (omega (arith, lt))
-show_more {P = P} (x ∷ xs) zero m session lt h k = rw (h, k) refl
-show_more {P = P} (x ∷ xs) (suc i) m session lt h k =
-    ap (λ (calls : List (SystemCall P)). Shows x.1.ports (status_of x.0 x.1.bytes) ∷ calls)
-    (show_more xs i m session (omega (arith, lt)) h k)
-
--- without progress the system waits
-pub rested : {P S : Type 0} (transition : S → SystemCall P → S → Type 0) (made_progress : Bool) (s t : S) →
-    made_progress ≡ false → transition s Waits t → TransitsBy transition s (wait_where made_progress) t
-rested transition false s t e waited = (t, waited, refl)
-rested transition true s t e waited = absurd (cc)
 
 module _ {P S : Type 0} (port_transition : P → PortCall → P → Type 0) (transition : S → SystemCall P → S → Type 0) where
   -- the first n rounds, with their trace of system calls
@@ -62,7 +100,7 @@ module _ {P S : Type 0} (Refuses : ℕ → Type 0) (port_transition : P → Port
   -- one of its rounds was broken off
   pub runs_out : (n : ℕ) (mid end : ServiceView P) (s t u : S) →
       Ran port_transition transition n (initial_service settings) s mid t → is_done mid ≡ false → (last : List (SystemCall P)) →
-      TransitsBy transition t last u → BreaksOff Refuses mid last end →
+      TransitsBy transition t last u → BreaksOff Refuses port_transition mid last end →
       (answers : List (SystemCall P)) × TransitsBy transition s answers u
       × GivesUp Refuses port_transition settings Faults.Memory answers
   runs_out n mid end s t u ran going_on last goes breaks = (

@@ -54,7 +54,7 @@ returns-in_err-round-clause-refused g c =
     (IsServeCause g.A.Memory.Refuses c.args.settings.now) c.from_residual.ensures.1
     c.in_err-round.ensures.refused
     (inr (body_refused g.P.Ports.transition c.args.settings.now g.A.Memory.Refuses c.loop-round._round ran.0
-    c.loop-round.service ran.2 broken.2.refused))
+    c.loop-round.service ran.2 broken.0 _ broken.2))
 
 -- all rounds were made if the loop ran to its end
 pub returns-clause-given_up : goal.returns-clause-given_up

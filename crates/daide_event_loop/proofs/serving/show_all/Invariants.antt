@@ -1,8 +1,0 @@
-use Rattle.std.proofs.Common.{take}
-use Rattle.daide_io.specs.System.{TransitsBy}
-use Rattle.daide_event_loop.specs.Serving.{shows}
-use Rattle.daide_event_loop.proofs.serving.show_all.Given as goal
-
--- the sessions at the places before this one are shown
-abbrev pub invariant-loop-i : goal.invariant-loop-i
-invariant-loop-i g l = TransitsBy g.S.System.transition l.initial.system (shows (take l.i l.hub.places)) l.system
