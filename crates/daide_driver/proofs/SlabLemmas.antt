@@ -1,6 +1,7 @@
 -- Places of a slab: one that changes, and the next free one.
 use Rattle.std.proofs.Common.{◌≡◌, ◌≢◌, ◌⊎◌, ℕ, zero, suc, ◌+◌, ◌≤◌, ◌<◌, Bool, true, false, List, [], ◌∷◌, ◌++◌, length, map, set, get_or, Some, inl, inr, ⊎_elim, refl, sym, ap, ◌∙◌, subst, arith, length-set}
-use Rattle.std.specs.Prelude.{Option, None, slice_get, option_map}
+use Rattle.std.specs.Prelude.{◌&&◌, Option, None, slice_get, option_map}
+use Rattle.std.specs.List.{list_all}
 use Rattle.std.proofs.lemmas.Bool.Decides.{eqb_tells}
 use Rattle.std.proofs.lemmas.List.{map-set}
 use Rattle.std.proofs.lemmas.Option.{slice_get-map, slice_get_within, slice_get_read}
@@ -8,7 +9,7 @@ use Rattle.daide_protocol.specs.Machine.{Limits}
 use Rattle.daide_protocol.specs.Wires.{SessionView}
 use Rattle.daide_driver.specs.declared.place.SlabPlace.{SlabPlace}
 use Rattle.daide_driver.specs.declared.place.SlabPlace.TheVariants.{Free, Kept, Held}
-use Rattle.daide_driver.specs.Slab.{SlabView, is_free_place, is_held, is_so, is_at, held_as, all_free, IsNoneFree, IsNextFree, IsAt, with_place}
+use Rattle.daide_driver.specs.Slab.{SlabView, is_free_place, is_kept, is_held, is_so, is_at, held_as, all_free, IsNoneFree, IsNextFree, IsAt, with_place}
 
 -- ---- lists
 
@@ -165,3 +166,42 @@ module _ {T : Type 0} where
   pub none_next : (places : List (SlabPlace T)) → ((k : ℕ) → k < length places → slice_get places k ≡ Some Free → ⊥) →
       IsNextFree places (length places)
   none_next places none = inr (omega arith, λ k h. none k (slice_get_within places k Free h) h)
+
+pub all_free_length : {T : Type 0} (n : ℕ) → length (all_free {T = T} n) ≡ n
+all_free_length zero = refl
+all_free_length {T = T} (suc n) = ap (λ (k : ℕ). suc k) (all_free_length {T = T} n)
+
+-- ---- tests of a place
+
+module _ {X P : Type 0} (f : X → SessionView × P) where
+  pub free_view : (x : SlabPlace X) → is_free_place (held_as f x) ≡ is_free_place x
+  free_view Free = refl
+  free_view Kept = refl
+  free_view (Held held) = refl
+
+  pub kept_view : (x : SlabPlace X) → is_kept (held_as f x) ≡ is_kept x
+  kept_view Free = refl
+  kept_view Kept = refl
+  kept_view (Held held) = refl
+
+  pub held_view : (x : SlabPlace X) → is_held (held_as f x) ≡ is_held x
+  held_view Free = refl
+  held_view Kept = refl
+  held_view (Held held) = refl
+
+  pub all_free_here : (items : List (SlabPlace X)) →
+      list_all is_free_place (map (held_as f) items) ≡ list_all is_free_place items
+  all_free_here [] = refl
+  all_free_here (x ∷ items) =
+      ap (λ (b : Bool). b && list_all is_free_place (map (held_as f) items)) (free_view x)
+      ∙ ap (λ (b : Bool). is_free_place x && b) (all_free_here items)
+
+  pub at_view : (one : SlabPlace (SessionView × P) → Bool) (other : SlabPlace X → Bool) →
+      ((x : SlabPlace X) → one (held_as f x) ≡ other x) → (items : List (SlabPlace X)) (i : ℕ) →
+      is_at one (map (held_as f) items) i ≡ is_at other items i
+  at_view one other same items i =
+      ap (is_so one) (slice_get-map (held_as f) items i) ∙ of (slice_get items i)
+    where
+      of : (o : Option (SlabPlace X)) → is_so one (option_map (held_as f) o) ≡ is_so other o
+      of None = refl
+      of (Some x) = same x

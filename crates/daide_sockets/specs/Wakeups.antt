@@ -118,11 +118,13 @@ abbrev pub KeepsOtherPlaces : Table → ℕ → Table → Type 0
 KeepsOtherPlaces old place new =
     (other : ℕ) → other < length old.deadlines → (place == other) ≡ false → KeepsPlace old other new
 
--- A connect that did not fail leaves what was reported of its bot for the first turn of the session.
-abbrev pub KeepsBot : {P : Type 0} → Connect P → Table → ℕ → Table → Type 0
-KeepsBot (Ready ports) old place new = report_at new (key_of place Bot) ≡ report_at old (key_of place Bot)
-KeepsBot Failed old place new = Unit {0}
-KeepsBot Pending old place new = report_at new (key_of place Bot) ≡ report_at old (key_of place Bot)
+-- A connect that did not fail leaves what was reported of its bot in the row, for the first turn of the session. What was
+-- reported of the server is known of its socket then. `view` is the content of ports.
+abbrev pub KeepsReports : {P S : Type 0} → (P → SessionSockets S) → Connect P → Table → ℕ → Table → Type 0
+KeepsReports view (Ready ports) old place new = (report_at new (key_of place Bot) ≡ report_at old (key_of place Bot))
+    × (merged (view ports).server.readiness (report_at old (key_of place Server)) ≡ (view ports).server.readiness)
+KeepsReports view Failed old place new = Unit {0}
+KeepsReports view Pending old place new = report_at new (key_of place Bot) ≡ report_at old (key_of place Bot)
 
 -- a call that polls
 abbrev pub is_poll : {C : Type 0} → NetworkCall C → Bool
@@ -194,7 +196,7 @@ WakesBy transition calls view old (Shows ports status) new = new ≡ old
 WakesBy transition calls view old (Accepts place came) new =
     GoesUnpolled transition old.0 new.0 × KeepsOtherPlaces old.1 place new.1
 WakesBy transition calls view old (Connects place connect) new =
-    GoesUnpolled transition old.0 new.0 × KeepsOtherPlaces old.1 place new.1 × KeepsBot connect old.1 place new.1
+    GoesUnpolled transition old.0 new.0 × KeepsOtherPlaces old.1 place new.1 × KeepsReports view connect old.1 place new.1
 WakesBy transition calls view old (BeginsTurn place before after) new =
     (new.0 ≡ old.0) × TakesReports calls old.1 place (view before) (view after) new.1
 WakesBy transition calls view old (Rests place ports rests) new =
