@@ -1,9 +1,7 @@
 -- Lists of places in which each is at most once, and their marks.
 use Rattle.std.proofs.Common.{◌≡◌, ℕ, zero, suc, ◌+◌, ◌≤◌, ◌<◌, Bool, true, false, List, [], ◌∷◌, ◌++◌, length, take, get_or, slice_set}
-use Rattle.std.proofs.Common.{refl, ap, sym, ◌∙◌, subst, arith}
-use Rattle.std.specs.Prelude.{if◌then◌else◌, nat_lt, ◌&&◌, not}
-use Rattle.std.proofs.lemmas.Bool.{lt-ltb}
-use Rattle.daide_io.specs.ReadyQueue.{ReadyView, is_same, occurrences_of, one_if, mark_at, is_among, AreMarked, may_join, woken, woken_all, put_back}
+use Rattle.std.proofs.Common.{refl, ap, sym, subst, arith}
+use Rattle.daide_io.specs.ReadyQueue.{ReadyView, is_same, occurrences_of, one_if, mark_at, AreMarked, woken, woken_all}
 
 few : (b : Bool) → one_if b ≤ 1
 few true = omega arith
@@ -145,7 +143,7 @@ less_moving fresh moving at k =
     let own : occurrences_of k (at ∷ moving) ≡ is_same at k + occurrences_of k moving = refl in
     omega (arith, own, occurrences_both k fresh (at ∷ moving), occurrences_both k fresh moving)
 
--- ---- whether a place may join
+-- ---- marks that were read
 
 -- a mark that was read as false
 pub read_false : (marks : List Bool) (at : ℕ) (x : Bool) → x ≡ get_or marks at x → x ≡ false → mark_at marks at ≡ false
@@ -163,25 +161,6 @@ is_there [] at h =
     absurd (omega (arith, h, free))
 is_there (b ∷ bs) zero h = omega arith
 is_there (b ∷ bs) (suc at) h = omega (arith, is_there bs at h)
-
--- one without a mark may join
-pub free_joins : (fresh moving : List ℕ) (marks : List Bool) (at : ℕ) → AreMarked marks (fresh ++ moving) →
-    at < length marks → mark_at marks at ≡ false →
-    may_join (record { fresh = fresh; moving = moving; places = length marks }) at ≡ true
-free_joins fresh moving marks at h l e =
-    let free : is_among at (fresh ++ moving) ≡ false = ap (nat_lt 0) (h at ∙ ap one_if e) in
-    let there : nat_lt at (length marks) ≡ true = lt-ltb at (length marks) l in
-    ap (λ (b : Bool). b && not (is_among at (fresh ++ moving))) there ∙ ap (λ (b : Bool). not b) free
-
-pub wakes : (queue : ReadyView) (at : ℕ) → may_join queue at ≡ true →
-    record queue { fresh = queue.fresh ++ at ∷ [] } ≡ woken queue at
-wakes queue at e =
-    sym (ap (λ (b : Bool). if b then record queue { fresh = queue.fresh ++ at ∷ [] } else queue) e)
-
-pub returns : (queue : ReadyView) (at : ℕ) → may_join queue at ≡ true →
-    record queue { moving = queue.moving ++ at ∷ [] } ≡ put_back queue at
-returns queue at e =
-    sym (ap (λ (b : Bool). if b then record queue { moving = queue.moving ++ at ∷ [] } else queue) e)
 
 -- ---- several places
 
