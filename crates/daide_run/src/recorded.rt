@@ -115,13 +115,14 @@ impl<'w, N: Network, R: AllocGlobal + Files, C: Clock, E: Write + Drop> System<
         ports.begin_turn(place, self.sockets, self.now);
     }
 
-    /// A record that has just ended is something to do at once, so that the next turn begins and it is logged.
+    /// A record may also break off in a turn that makes no progress, since it is written then.
     fn rest(
         &mut self,
         place: usize,
         ports: &Recording<SocketPorts<'w, N::Connection>, SessionFile<R::File>>,
     ) -> bool {
-        !ports.has_just_ended() && self.sockets.rest(place, ports.ports())
+        tell_if_ended(ports, &mut self.sockets.errors);
+        self.sockets.rest(place, ports.ports())
     }
 
     fn accept(&mut self, place: usize) -> bool {
