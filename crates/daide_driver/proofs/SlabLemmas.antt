@@ -62,8 +62,12 @@ module _ {T : Type 0} where
 
 -- ---- the abstract places
 
+-- the value of a slab with these items
+abbrev viewed : {X P : Type 0} → (X → SessionView × P) → Limits → List (SlabPlace X) → SlabView P
+viewed f limits items = record { limits = limits; places = map (held_as f) items }
+
 module _ {X P : Type 0} (f : X → SessionView × P) (limits : Limits) (items : List (SlabPlace X)) (now : SlabView P)
-    (is : ◌≡◌ {A = SlabView P} (record { limits = limits; places = map (held_as f) items }) now) where
+    (is : viewed f limits items ≡ now) where
   -- a place of the value is that of the items
   seen : (i : ℕ) → option_map (held_as f) (slice_get items i) ≡ slice_get now.places i
   seen i = sym (slice_get-map (held_as f) items i) ∙ ap (λ (s : SlabView P). slice_get s.places i) is
@@ -129,11 +133,9 @@ module _ {X P : Type 0} (f : X → SessionView × P) (limits : Limits) (items : 
       of (Held slot) own = (slot, refl)
 
   -- one place changed
-  pub place_set : (i : ℕ) (x : SlabPlace X) → ◌≡◌ {A = SlabView P} (record { limits = limits; places = map (held_as f) (set items i x) })
-      (with_place now i (held_as f x))
+  pub place_set : (i : ℕ) (x : SlabPlace X) → viewed f limits (set items i x) ≡ with_place now i (held_as f x)
   place_set i x =
-      subst (λ (s : SlabView P). ◌≡◌ {A = SlabView P}
-      (record { limits = limits; places = map (held_as f) (set items i x) }) (with_place s i (held_as f x))) is
+      subst (λ (s : SlabView P). viewed f limits (set items i x) ≡ with_place s i (held_as f x)) is
       (ap (λ (ps : List (SlabPlace (SessionView × P))). record { limits = limits; places = ps }) (map-set (held_as f) items i x))
 
   -- whether this is so of a place, and of each place
@@ -196,8 +198,7 @@ all_free_next (suc n) = inl refl
 
 -- the value of a new slab
 pub opening : {X P : Type 0} (f : X → SessionView × P) (limits : Limits) (items : List (SlabPlace X)) (n max : ℕ) →
-    items ≡ all_free n → n ≡ max → ◌≡◌ {A = SlabView P} (record { limits = limits; places = map (held_as f) items })
-    (record { limits = limits; places = all_free max })
+    items ≡ all_free n → n ≡ max → viewed f limits items ≡ record { limits = limits; places = all_free max }
 opening {P = P} f limits items n max e same =
     ap (λ (ps : List (SlabPlace (SessionView × P))). record { limits = limits; places = ps })
     (ap (map (held_as f)) e ∙ seen_free n ∙ ap (λ (k : ℕ). all_free k) same)
