@@ -1,5 +1,5 @@
 -- The control connections of a run together: at most four. (own)
-use Rattle.std.specs.Prelude.{◌≡◌, ◌⊎◌, ℕ, Bool, true, false, ◌||◌, List, [], ◌∷◌, Option, Some, None, if◌then◌else◌}
+use Rattle.std.specs.Prelude.{◌≡◌, ◌⊎◌, ℕ, Bool, true, false, ◌&&◌, ◌||◌, not, is_some, List, [], ◌∷◌, Option, Some, None, if◌then◌else◌}
 use Rattle.std.specs.declared.time.Instant.{Instant}
 use Rattle.daide_io.specs.Network.{NetworkCall, AcceptsControl}
 use Rattle.daide_io.specs.Streams.{StreamCall}
@@ -9,7 +9,7 @@ use Rattle.daide_status.specs.declared.snapshot.RunStatus.{RunStatus}
 use Rattle.daide_status.specs.declared.snapshot.SessionRow.{SessionRow}
 use Rattle.daide_sockets.specs.Accepting.{is_accept_due}
 use Rattle.daide_sockets.specs.Control.{Advances, ShowsOn, has_control_work, control_due, stops_at, stops_now_at, gathers_at}
-use Rattle.daide_sockets.specs.Table.{Table, merged, watching}
+use Rattle.daide_sockets.specs.Table.{Table, control_key, merged, watching}
 use Rattle.daide_sockets.specs.Times.{IsAfter}
 use Rattle.daide_sockets.specs.declared.control.Control.{Control}
 use Rattle.daide_sockets.specs.declared.control.ControlListener.{ControlListener}
@@ -84,7 +84,7 @@ abbrev pub AcceptsOne : {S : Type 0} → Option Instant → List (Option (Contro
 AcceptsOne {S} reading old new = (new ≡ old)
     ⊎ ((connection : ControlConnection S) × (has_free old ≡ true) × IsAccepted reading connection × (new ≡ with_one connection old))
 
--- the next wait is also to watch the connection of a place
+-- the next poll is also to watch the connection of a place
 abbrev pub watching_place : {S : Type 0} → Table → Option (ControlConnection S) → Table
 watching_place table None = table
 watching_place table (Some connection) = watching table (has_control_work connection) (control_due connection)
@@ -94,19 +94,27 @@ abbrev pub watching_places : {S : Type 0} → Table → List (Option (ControlCon
 watching_places table [] = table
 watching_places table (place ∷ rest) = watching_places (watching_place table place) rest
 
--- The next wait is also to watch the listener, while a place is free: whether it may give a connection, and the end of a
+-- an accept of a control connection is due: its listener is ready by the table, and no pause is under way
+abbrev pub is_control_due : Table → ControlListener → Bool
+is_control_due table listener = is_accept_due table (control_key table) listener.readiness listener.resumes_at
+
+-- whether an accept is due without a pause
+abbrev pub may_accept_control : Table → ControlListener → Bool
+may_accept_control table listener = is_control_due table listener && not (is_some listener.resumes_at)
+
+-- The next poll is also to watch the listener, while a place is free: whether it may give a connection, and the end of a
 -- pause.
 abbrev pub watching_listener : Table → Bool → Option ControlListener → Table
 watching_listener table has_room None = table
 watching_listener table has_room (Some listener) =
-    if has_room then watching table listener.readiness.may_read listener.resumes_at else table
+    if has_room then watching table (may_accept_control table listener) listener.resumes_at else table
 
--- an accept of a control connection is due: there is a listener, it is ready by the table, and no pause is under way
+-- the same, if there is a listener
 abbrev pub is_listener_due : Table → Option ControlListener → Bool
 is_listener_due table None = false
-is_listener_due table (Some listener) = is_accept_due table listener.key listener.readiness listener.resumes_at
+is_listener_due table (Some listener) = is_control_due table listener
 
--- the next wait is also to watch the control socket: its listener, and each connection
+-- the next poll is also to watch the control socket: its listener, and each connection
 abbrev pub watching_control : {S : Type 0} → Table → Control S → Table
 watching_control table control =
     watching_places (watching_listener table (has_free (places control.slots)) control.listener) (places control.slots)

@@ -1,12 +1,20 @@
 -- The end of a run: rounds that advance the closing streams, with a wait after each. (own)
-use Rattle.std.specs.Prelude.{◌≡◌, ◌⊎◌, ℕ, zero, suc, List, [], Option}
+use Rattle.std.specs.Prelude.{◌≡◌, ◌⊎◌, ℕ, zero, suc, Bool, List, [], Option}
+use Rattle.std.specs.declared.time.Duration.{Duration}
 use Rattle.std.specs.declared.time.Instant.{Instant}
 use Rattle.daide_io.specs.Network.{NetworkCall}
 use Rattle.daide_io.specs.Streams.{StreamCall}
 use Rattle.daide_sockets.specs.Beside.{closings_watched}
+use Rattle.daide_sockets.specs.InTime.{watching_all}
 use Rattle.daide_sockets.specs.Lingering.{ClosingList, LooksAround, in_pass}
-use Rattle.daide_sockets.specs.Table.{Table}
-use Rattle.daide_sockets.specs.Wakeups.{RestsOnce}
+use Rattle.daide_sockets.specs.Table.{Table, IsPollTime, PollsOnce, unwatched}
+
+-- a wait that watches these alone, each with work or without it, and with its nearest deadline
+pub record WaitsFor {N C : Type 0} (transition : N → NetworkCall C → N → Type 0) (others : List (Bool × Option Instant)) (old : N)
+    (before : Table) (new : N) (after : Table) : Type 0 where
+  pub time : Option Duration
+  pub lasts : IsPollTime true (watching_all (unwatched before) others) time
+  pub polls : PollsOnce transition time old (watching_all (unwatched before) others) new after
 
 -- the network, its table, and the closing streams
 pub record Finish (N S : Type 0) : Type 0 where
@@ -22,7 +30,7 @@ module _ {N C S : Type 0} (transition : N → NetworkCall C → N → Type 0) (t
     pub table : Table
     pub clock : table.reading ≡ old.table.reading
     pub advances : LooksAround to_give taken calls old.table.reading (in_pass old.closing) new.closing
-    pub rests : RestsOnce transition (closings_watched table new.closing.streams) old.network table new.network new.table
+    pub rests : WaitsFor transition (closings_watched table new.closing.streams) old.network table new.network new.table
 
   -- this number of rounds
   abbrev pub FinishesFor : ℕ → Finish N S → Finish N S → Type 0
