@@ -1,6 +1,6 @@
 -- The table of a run: what polls reported of its sockets, the deadlines of its places, and the time of a poll. (own)
-use Rattle.std.specs.Prelude.{◌≡◌, ℕ, ◌+◌, ◌-◌, ◌*◌, Bool, true, false, not, ◌&&◌, ◌||◌, List, [], ◌∷◌}
-use Rattle.std.specs.Prelude.{Option, Some, None, slice_get, slice_set}
+use Rattle.std.specs.Prelude.{◌≡◌, ℕ, ◌+◌, ◌-◌, ◌*◌, ◌/◌, ◌<◌, ◌≤◌, Bool, true, false, not, ◌&&◌, ◌||◌, List, [], ◌∷◌, length}
+use Rattle.std.specs.Prelude.{Option, Some, None, All, replicate, slice_get, slice_set}
 use Rattle.std.specs.Duration.{as_nanos}
 use Rattle.std.specs.Time.{instant_nanos}
 use Rattle.std.specs.declared.time.Duration.{Duration}
@@ -10,7 +10,9 @@ use Rattle.daide_frame.specs.declared.side.Side.TheVariants.{Bot, Server}
 use Rattle.daide_buffered_io.specs.declared.readiness.Readiness.{Readiness}
 use Rattle.daide_io.specs.declared.network.SocketEvent.{SocketEvent}
 use Rattle.daide_io.specs.Deadline.{earlier, IsNotBefore}
+use Rattle.daide_sockets.specs.Times.{is_past}
 use Rattle.daide_io.specs.Network.{NetworkCall, Polls, ReadsClock}
+use Rattle.daide_io.specs.ReadyQueue.{is_among}
 
 -- One row: whether a closing socket has it, and what polls reported of its socket since it last took the report.
 pub record Row : Type 0 where
@@ -83,6 +85,31 @@ abbrev pub without_report : Table → ℕ → Table
 without_report table key =
     record table { rows = changed table.rows key (record (row_at table.rows key) { report = no_report }) }
 
+-- ---- the rows of closing sockets
+
+-- The key of the first row of a closing socket. Before it are the two rows of each place, and those of two listeners and
+-- of four control connections.
+abbrev pub first_closing : Table → ℕ
+first_closing table = 2 * length table.deadlines + 6
+
+-- the row of a closing socket of which nothing is known
+abbrev pub taken_row : Row
+taken_row = record free_row { is_taken = true }
+
+-- no closing socket has this row of them
+pub record IsFreeRow (table : Table) (key : ℕ) : Type 0 where
+  pub first : first_closing table ≤ key
+  pub last : key < length table.rows
+  pub free : (row_at table.rows key).is_taken ≡ false
+
+-- each row of closing sockets is taken
+abbrev pub IsFull : Table → Type 0
+IsFull table = (key : ℕ) → IsFreeRow table key → ⊥
+
+-- a closing socket took a free row, under its key, and no other changed
+abbrev pub TakesRow : Table → ℕ → Table → Type 0
+TakesRow old key new = IsFreeRow old key × (new ≡ record old { rows = changed old.rows key taken_row })
+
 -- ---- one place
 
 -- the key of the row of the bot at a place, or of the server
@@ -102,10 +129,35 @@ deadline_at table place = deadline_in (slice_get table.deadlines place)
 abbrev pub AreDeadlinesBounded : Table → Type 0
 AreDeadlinesBounded table = (place : ℕ) → IsNotBefore table.due (deadline_at table place)
 
+-- a new table for this number of places and of closing sockets
+abbrev pub new_table : ℕ → ℕ → Table
+new_table places closing = record {
+  reading = None;
+  deadlines = replicate places None;
+  due = None;
+  watched_work = false;
+  watched_due = None;
+  rows = replicate (2 * places + 6 + closing) free_row;
+}
+
 -- a place rests until this deadline
 abbrev pub resting : Table → ℕ → Option Instant → Table
 resting table place due =
     record table { deadlines = slice_set table.deadlines place due; due = earlier table.due due }
+
+-- the session of a place is over, and has no deadline
+abbrev pub forgotten : Table → ℕ → Table
+forgotten table place = record table { deadlines = slice_set table.deadlines place None }
+
+-- the sessions of all places are over
+pub record ForgetsPlaces (old new : Table) : Type 0 where
+  pub none : (place : ℕ) → deadline_at new place ≡ None
+  pub places : length new.deadlines ≡ length old.deadlines
+  pub same : new ≡ record old { deadlines = new.deadlines; due = None }
+
+-- something was reported of a socket of a place since it last took the report
+abbrev pub is_place_reported : Table → ℕ → Bool
+is_place_reported table place = is_reported_at table (key_of place Bot) || is_reported_at table (key_of place Server)
 
 -- both sockets of a place take the reports of their rows
 abbrev pub without_reports : Table → ℕ → Table
@@ -148,6 +200,16 @@ pub record PollsOnce {N C : Type 0} (transition : N → NetworkCall C → N → 
   pub polls : transition old (Polls timeout news) polled
   pub reads : transition polled (ReadsClock reading) new
   pub table : after ≡ record before { reading = latest before.reading reading; rows = with_events before.rows news }
+
+-- The places that a poll wakes after it reported these events: each place of which it reported something, and each whose
+-- deadline is past. Any other place keeps its deadline.
+pub record WakesPlaces (news : List SocketEvent) (woken : List ℕ) (old new : Table) : Type 0 where
+  pub reported : All (λ event. event.key < 2 * length old.deadlines → is_among (event.key / 2) woken ≡ true) news
+  pub asleep : (place : ℕ) → is_among place woken ≡ false →
+      (deadline_at new place ≡ deadline_at old place) × (is_past old.reading (deadline_at old place) ≡ false)
+  pub places : length new.deadlines ≡ length old.deadlines
+  pub bounded : AreDeadlinesBounded new
+  pub same : new ≡ record old { deadlines = new.deadlines; due = new.due }
 
 -- ---- the time of a poll
 

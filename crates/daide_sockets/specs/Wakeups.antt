@@ -162,6 +162,18 @@ pub record TakesReports {S : Type 0} (calls : S → Option (List StreamCall)) (o
 
 -- ---- a poll
 
+-- The network is polled once, for this time, and the places are woken of which something was reported, or whose deadline is
+-- past. Any other place keeps its reports and its deadline, which is not past.
+pub record PollsPlaces {N C : Type 0} (transition : N → NetworkCall C → N → Type 0) (time : Option Duration)
+    (woken : List ℕ) (old : N) (before : Table) (new : N) (after : Table) : Type 0 where
+  pub reported : Table
+  pub polls : PollsOnce transition time old before new reported
+  pub asleep : (place : ℕ) → place < length before.deadlines → is_among place woken ≡ false →
+      KeepsPlace before place after × (is_past after.reading (deadline_at after place) ≡ false)
+  pub places : length after.deadlines ≡ length before.deadlines
+  pub bounded : AreDeadlinesBounded after
+  pub same : after ≡ record reported { deadlines = after.deadlines; due = after.due }
+
 -- The network is polled once, for the time of a poll that watches these beside the places, each with work or without it,
 -- and with its nearest deadline. All that was reported of the sockets of a place is in its rows. A place that is not woken
 -- keeps its reports and its deadline, and its deadline is not past.
