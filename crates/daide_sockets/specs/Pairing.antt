@@ -1,5 +1,5 @@
 -- The sockets of a run beside those of its sessions, and the effect of each system call on them. (own)
-use Rattle.std.specs.Prelude.{◌≡◌, ◌⊎◌, ℕ, ◌+◌, ◌-◌, ◌≤◌, nat_lt, true, false, List, [], ◌∷◌, ◌++◌, length, remove}
+use Rattle.std.specs.Prelude.{◌≡◌, ◌⊎◌, ℕ, ◌+◌, ◌-◌, ◌≤◌, nat_lt, Bool, true, false, List, [], ◌∷◌, ◌++◌, length, remove}
 use Rattle.std.specs.Prelude.{Option, Some, None, Ok, slice_get, slice_set, if◌then◌else◌}
 use Rattle.std.specs.declared.net.socket_addr.SocketAddr.{SocketAddr}
 use Rattle.daide_io.specs.Network.{NetworkCall, BeginsConnect, Follows}
@@ -57,9 +57,14 @@ abbrev pub pending_in : {S : Type 0} → List (Option (Arriving S)) → ℕ
 pending_in [] = 0
 pending_in (arrival ∷ arrivals) = one_if_arrives arrival + pending_in arrivals
 
--- no bot at this place has a pending connect
-abbrev pub IsFreePlace : {S : Type 0} → List (Option (Arriving S)) → ℕ → Type 0
-IsFreePlace arrivals place = slice_get arrivals place ≡ Some None
+abbrev pub is_free_in : {S : Type 0} → Option (Option (Arriving S)) → Bool
+is_free_in None = false
+is_free_in (Some None) = true
+is_free_in (Some (Some arrival)) = false
+
+-- this is a place, and no bot there has a pending connect
+abbrev pub is_free_place : {S : Type 0} → List (Option (Arriving S)) → ℕ → Bool
+is_free_place arrivals place = is_free_in (slice_get arrivals place)
 
 -- ---- bots and their connects
 
@@ -156,7 +161,7 @@ ClosesBoth {S} to_give taken calls old pair new = (mid : ClosingList S)
 pub record Comes {S : Type 0} (old : RunSockets S) (place : ℕ) (new : RunSockets S) : Type 0 where
   pub arrival : Arriving S
   pub came : new.came ≡ old.came + 1
-  pub free : IsFreePlace old.arrivals place
+  pub free : is_free_place old.arrivals place ≡ true
   pub arrivals : new.arrivals ≡ slice_set old.arrivals place (Some arrival)
   pub number : arrival.number ≡ new.came
   pub bot : IsFresh arrival.bot
