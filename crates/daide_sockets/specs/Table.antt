@@ -9,15 +9,11 @@ use Rattle.daide_frame.specs.declared.side.Side.{Side}
 use Rattle.daide_frame.specs.declared.side.Side.TheVariants.{Bot, Server}
 use Rattle.daide_buffered_io.specs.declared.readiness.Readiness.{Readiness}
 use Rattle.daide_io.specs.declared.network.SocketEvent.{SocketEvent}
+use Rattle.daide_sockets.specs.declared.table.Row.{Row}
 use Rattle.daide_io.specs.Deadline.{earlier, IsNotBefore}
 use Rattle.daide_sockets.specs.Times.{is_past}
 use Rattle.daide_io.specs.Network.{NetworkCall, Polls, ReadsClock}
 use Rattle.daide_io.specs.ReadyQueue.{is_among}
-
--- One row: whether a closing socket has it, and what polls reported of its socket since it last took the report.
-pub record Row : Type 0 where
-  pub is_taken : Bool
-  pub report : Readiness
 
 -- The last reading of the clock; the deadline of each place as it last came to rest, and a moment before which none of them
 -- is. Of what the next poll watches beside the places, whether something may be done at once, and the nearest deadline. The
@@ -137,9 +133,13 @@ deadline_in (Some due) = due
 abbrev pub deadline_at : Table → ℕ → Option Instant
 deadline_at table place = deadline_in (slice_get table.deadlines place)
 
+-- none of these deadlines is before a moment
+abbrev pub AreBounded : Option Instant → List (Option Instant) → Type 0
+AreBounded due deadlines = (place : ℕ) → IsNotBefore due (deadline_in (slice_get deadlines place))
+
 -- no place has a deadline before `due`
 abbrev pub AreDeadlinesBounded : Table → Type 0
-AreDeadlinesBounded table = (place : ℕ) → IsNotBefore table.due (deadline_at table place)
+AreDeadlinesBounded table = AreBounded table.due table.deadlines
 
 -- a new table for this number of places and of closing sockets
 abbrev pub new_table : ℕ → ℕ → Table
@@ -166,10 +166,6 @@ pub record ForgetsPlaces (old new : Table) : Type 0 where
   pub none : (place : ℕ) → deadline_at new place ≡ None
   pub places : length new.deadlines ≡ length old.deadlines
   pub same : new ≡ record old { deadlines = new.deadlines; due = None }
-
--- something was reported of a socket of a place since it last took the report
-abbrev pub is_place_reported : Table → ℕ → Bool
-is_place_reported table place = is_reported_at table (key_of place Bot) || is_reported_at table (key_of place Server)
 
 -- both sockets of a place take the reports of their rows
 abbrev pub without_reports : Table → ℕ → Table
