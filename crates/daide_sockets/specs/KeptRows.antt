@@ -1,11 +1,9 @@
 -- What a system call keeps of the rows of the table: of those beside the places, which listeners, control connections and
 -- closing streams have. (own)
 use Rattle.std.specs.Prelude.{◌≡◌, ℕ, ◌<◌, ◌≤◌, length}
-use Rattle.std.specs.Prelude.{List}
 use Rattle.daide_io.specs.System.{SystemCall, Polls, Shows, Accepts, Connects, BeginsTurn, Rests, Retires, Notifies}
 use Rattle.daide_io.specs.declared.system.Connect.TheVariants.{Ready, Failed, Pending}
-use Rattle.daide_sockets.specs.Lingering.{ClosingStream}
-use Rattle.daide_sockets.specs.Rows.{AreRowsOf, closing_keys, taken_at}
+use Rattle.daide_sockets.specs.Rows.{taken_at}
 use Rattle.daide_sockets.specs.Table.{Table, control_key, first_closing, listener_key, report_at, row_at}
 
 -- Rows of which this holds may have changed, and nothing else of the table. No row is taken by it.
@@ -36,9 +34,3 @@ KeepsBeside old (BeginsTurn place before after) new = KeepsReportsOf (λ key. li
 KeepsBeside old (Rests place ports rests) new = new.rows ≡ old.rows
 KeepsBeside old (Shows ports status) new = new ≡ old
 KeepsBeside old (Notifies notice) new = new ≡ old
-
--- What a call does to the rows beside those of the places. Each taken row stays that of one closing stream.
-pub record KeepsRows {P S : Type 0} (old : Table) (before : List (ClosingStream S)) (call : SystemCall P) (new : Table)
-    (after : List (ClosingStream S)) : Type 0 where
-  pub held : AreRowsOf old (closing_keys before) → AreRowsOf new (closing_keys after)
-  pub keeps : KeepsBeside old call new

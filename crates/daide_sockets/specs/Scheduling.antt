@@ -14,7 +14,8 @@ use Rattle.daide_sockets.specs.Accepting.{is_bot_due, may_connect, AcceptsThenCo
 use Rattle.daide_sockets.specs.Beside.{listener_watched, others_watched}
 use Rattle.daide_sockets.specs.Lingering.{ClosingList, LooksAround, in_pass}
 use Rattle.daide_sockets.specs.Pairing.{Arriving, Paired, RunSockets, is_free_place, arrival_at, ClosesAt, ClosesBothAt, Transits}
-use Rattle.daide_sockets.specs.KeptRows.{KeepsRows}
+use Rattle.daide_sockets.specs.KeptRows.{KeepsBeside}
+use Rattle.daide_sockets.specs.Rows.{AreRowsOf, closing_keys}
 use Rattle.daide_sockets.specs.Table.{Table, IsNoTime, deadline_at, key_of}
 use Rattle.daide_sockets.specs.Timers.{SessionTimers, BeginsAt, timers_of}
 use Rattle.daide_sockets.specs.Times.{is_past}
@@ -142,16 +143,21 @@ pub record AwaitsBots {N C S : Type 0} (transition : N → NetworkCall C → N �
 
 -- ---- all of it
 
--- All that a system call does to the sockets of a run: to its bots and its closing streams (`Transits`), as far as a
--- session's rest needs it (`Wakes`), what it schedules (`Schedules`), to its closing streams by the clock
--- (`ClosesByClock`), and to the rows beside those of the places (`KeepsRows`). `ports_in` is the content of ports.
+-- each taken row is that of one closing stream, and each closing stream has a row of its own
+abbrev pub HoldsRows : {N S : Type 0} → RunState N S → Type 0
+HoldsRows state = AreRowsOf state.table (closing_keys state.closing.streams)
+
+-- All that a system call does to the sockets of a run whose closing streams hold their rows, as they do after it: to its
+-- bots and its closing streams (`Transits`), as far as a session's rest needs it (`Wakes`), what it schedules (`Schedules`),
+-- to its closing streams by the clock (`ClosesByClock`), and what it keeps of the rows beside those of the places
+-- (`KeepsBeside`). `ports_in` is the content of ports.
 abbrev pub RunEvolves : {N C P S : Type 0} → (N → NetworkCall C → N → Type 0) → (S → Option (List ℕ)) →
     (S → Option (List ℕ)) → (S → Option (List StreamCall)) → (P → SocketPorts S) → RunState N S → SystemCall P →
     RunState N S → Type 0
-RunEvolves transition to_give taken calls ports_in old call new =
-    Transits to_give taken calls (λ ports. pair_of (ports_in ports)) (sockets_in old) call (sockets_in new)
+RunEvolves transition to_give taken calls ports_in old call new = HoldsRows old → HoldsRows new
+    × Transits to_give taken calls (λ ports. pair_of (ports_in ports)) (sockets_in old) call (sockets_in new)
     × Wakes transition calls (λ ports. (timers_of (ports_in ports)).sockets) (old.network, old.table) call
     (new.network, new.table)
     × Schedules transition (λ ports. timers_of (ports_in ports)) old call new
     × ClosesByClock to_give taken calls (λ ports. pair_of (ports_in ports)) old call new
-    × KeepsRows old.table old.closing.streams call new.table new.closing.streams
+    × KeepsBeside old.table call new.table

@@ -14,7 +14,7 @@ ghost use Rattle.daide_sockets.specs.Accepting.{is_accept_made, is_bot_due, may_
 ghost use Rattle.daide_sockets.specs.Accepting.{AsksAtMostOnce, BringsNoBot, ConnectsFrom, TriesOn, GivesConnection, Pauses};
 ghost use Rattle.daide_sockets.specs.Beside.{listener_watched};
 ghost use Rattle.daide_sockets.specs.KeptRows.{ChangesRows};
-ghost use Rattle.daide_sockets.specs.Pairing.{ConnectsTo, StaysPending, IsFreshConnect, IsFresh, IsJoined};
+ghost use Rattle.daide_sockets.specs.Pairing.{ConnectsTo, StaysPending, IsFreshConnect, IsFresh, IsJoined, pending_in};
 ghost use Rattle.daide_sockets.specs.Present.{HasRoomForOne};
 ghost use Rattle.daide_sockets.specs.Table.{listener_key, merged, report_at, watching};
 ghost use Rattle.daide_sockets.specs.Timers.{BeginsAt, timers_of};
@@ -398,6 +398,19 @@ impl<'w, S: Drop> Model for PendingConnection<'w, S> {
 
     // the connect was made for this bot
     ghost invariant = { λ a. IfSome a.server (λ socket. socket.made_for ≡ a.number) };
+}
+
+/// Returns how many connects are under way.
+pub(crate) fn pending_count<S: Drop>(arrivals: &[Option<PendingConnection<'_, S>>]) -> usize
+    ensures { result ≡ pending_in arrivals.now }
+{
+    let mut count = 0;
+    for arrival in arrivals {
+        if arrival.is_some() {
+            count += 1;
+        }
+    }
+    count
 }
 
 /// A bot with no server reached before the deadline: the number of its session, and its socket.
