@@ -52,10 +52,14 @@ abbrev pub one_if_arrives : {S : Type 0} → Option (Arriving S) → ℕ
 one_if_arrives None = 0
 one_if_arrives (Some arrival) = 1
 
+-- the sum of a number of each place
+abbrev pub sum_over : {S : Type 0} → (Option (Arriving S) → ℕ) → List (Option (Arriving S)) → ℕ
+sum_over number [] = 0
+sum_over number (arrival ∷ arrivals) = number arrival + sum_over number arrivals
+
 -- how many connects are pending
 abbrev pub pending_in : {S : Type 0} → List (Option (Arriving S)) → ℕ
-pending_in [] = 0
-pending_in (arrival ∷ arrivals) = one_if_arrives arrival + pending_in arrivals
+pending_in arrivals = sum_over one_if_arrives arrivals
 
 abbrev pub is_free_in : {S : Type 0} → Option (Option (Arriving S)) → Bool
 is_free_in None = false
