@@ -2,13 +2,16 @@
 use Rattle.std.proofs.Common.{◌≡◌, ℕ, zero, suc, ◌+◌, ◌*◌, ◌≤◌, ◌<◌, Bool, true, false, List, [], ◌∷◌, length, refl, sym, ap, ◌∙◌, arith}
 use Rattle.std.proofs.Common.{◌⊎◌, inl, inr, subst, Option, Some, None}
 use Rattle.std.specs.Prelude.{◌==◌, nat_lt, slice_get, slice_set}
+use Rattle.std.specs.declared.time.Instant.{Instant}
 use Rattle.daide_frame.specs.declared.side.Side.{Side}
 use Rattle.daide_frame.specs.declared.side.Side.TheVariants.{Bot, Server}
 use Rattle.daide_buffered_io.specs.declared.readiness.Readiness.{Readiness}
 use Rattle.daide_io.specs.ReadyQueue.{one_if, occurrences_of}
 use Rattle.daide_sockets.specs.KeptRows.{ChangesRows}
-use Rattle.daide_sockets.specs.Rows.{AreRowsOf, taken_at}
-use Rattle.daide_sockets.specs.Table.{Table, changed, deadline_in, first_closing, free_row, freed, key_of, no_report, report_at, row_at, without_report}
+use Rattle.daide_sockets.specs.Lingering.{ClosingStream}
+use Rattle.daide_sockets.specs.Rows.{AreRowsOf, KeepsClosingRows, closing_keys, taken_at}
+use Rattle.daide_sockets.specs.Table.{Table, changed, deadline_in, first_closing, forgotten, free_row, freed, key_of, no_report, report_at, resting}
+use Rattle.daide_sockets.specs.Table.{row_at, without_report}
 use Rattle.daide_sockets.specs.Wakeups.{KeepsPlace, KeepsOtherPlaces}
 use Rattle.daide_sockets.specs.declared.table.Row.{Row}
 
@@ -53,7 +56,13 @@ report_changes old new key e =
       same = refl;
     })
 
--- of a row that is freed nothing is reported
+-- of a row whose report is taken, or that is freed, nothing is reported
+pub report_cleared : (rows : List Row) (key : ℕ) →
+    (row_at (changed rows key (record (row_at rows key) { report = no_report })) key).report ≡ no_report
+report_cleared [] key = refl
+report_cleared (first ∷ rows) zero = refl
+report_cleared (first ∷ rows) (suc key) = report_cleared rows key
+
 pub freed_unknown : (rows : List Row) (key : ℕ) → (row_at (changed rows key free_row) key).report ≡ no_report
 freed_unknown [] key = refl
 freed_unknown (first ∷ rows) zero = refl
@@ -145,3 +154,73 @@ keys_apart place other Bot Bot e h = apart place other e (omega (arith, h))
 keys_apart place other Bot Server e h = absurd (omega (arith, h))
 keys_apart place other Server Bot e h = absurd (omega (arith, h))
 keys_apart place other Server Server e h = apart place other e (omega (arith, h))
+
+-- a table that read the clock again, with no closing stream
+pub first_rows : {S : Type 0} (old new : Table) (streams : List (ClosingStream S)) → new ≡ record old { reading = new.reading } →
+    streams ≡ [] → AreRowsOf old [] → AreRowsOf new (closing_keys streams)
+first_rows old new streams e none rows =
+    subst (λ (t : Table). AreRowsOf t (closing_keys streams)) (sym e)
+    (subst (λ (l : List (ClosingStream _)). AreRowsOf (record old { reading = new.reading }) (closing_keys l)) (sym none)
+    (record { taken = rows.taken; beyond = rows.beyond; count = rows.count }))
+
+-- ---- other places
+
+get_other : {X : Type 0} (xs : List X) (at key : ℕ) (x : X) → (at == key) ≡ false → slice_get (slice_set xs at x) key ≡ slice_get xs key
+get_other [] at key x e = refl
+get_other (first ∷ xs) zero zero x e = absurd (cc)
+get_other (first ∷ xs) zero (suc key) x e = refl
+get_other (first ∷ xs) (suc at) zero x e = refl
+get_other (first ∷ xs) (suc at) (suc key) x e = get_other xs at key x e
+
+-- the rows and the deadlines of all places but one are the same
+pub keeps_others : (old new : Table) (place : ℕ) →
+    ((other : ℕ) (side : Side) → other < length old.deadlines → (place == other) ≡ false →
+    row_at new.rows (key_of other side) ≡ row_at old.rows (key_of other side)) →
+    ((other : ℕ) → (place == other) ≡ false → slice_get new.deadlines other ≡ slice_get old.deadlines other) →
+    KeepsOtherPlaces old place new
+keeps_others old new place rows deadlines other lt ne = record {
+  reports = λ side. ap (λ (r : Row). r.report) (rows other side lt ne);
+  deadline = ap (λ (d : Option (Option Instant)). deadline_in d) (deadlines other ne);
+}
+
+below_closing : (table : Table) (place : ℕ) (side : Side) → place < length table.deadlines → key_of place side < first_closing table
+below_closing table place Bot lt = omega (arith, lt)
+below_closing table place Server lt = omega (arith, lt)
+
+-- rows of one place changed, and its deadline
+pub place_changes : (old mid new : Table) (place : ℕ) (own : ℕ → Type 0) →
+    ((other : ℕ) (side : Side) → other < length old.deadlines → (place == other) ≡ false → own (key_of other side) → ⊥) →
+    ChangesRows own old mid → new.rows ≡ mid.rows →
+    ((other : ℕ) → (place == other) ≡ false → slice_get new.deadlines other ≡ slice_get mid.deadlines other) →
+    KeepsOtherPlaces old place new
+place_changes old mid new place own apart h rows deadlines =
+    keeps_others old new place
+    (λ other side lt ne. ap (λ (r : List Row). row_at r (key_of other side)) rows ∙ h.others (key_of other side) (apart other side lt ne))
+    (λ other ne. deadlines other ne ∙ ap (λ (t : Table). slice_get t.deadlines other) h.same)
+
+-- a place rests, or its deadline is forgotten
+pub rests_others : (table : Table) (place other : ℕ) (due : Option Instant) → (place == other) ≡ false →
+    slice_get (resting table place due).deadlines other ≡ slice_get table.deadlines other
+rests_others table place other due ne = get_other table.deadlines place other due ne
+
+deadline_count : (xs : List (Option Instant)) (at : ℕ) (x : Option Instant) → length (slice_set xs at x) ≡ length xs
+deadline_count [] at x = refl
+deadline_count (y ∷ xs) zero x = refl
+deadline_count (y ∷ xs) (suc at) x = ap suc (deadline_count xs at x)
+
+-- the rows stay those of closing streams if the deadline of a place is forgotten
+pub forgot : (table : Table) (place : ℕ) (keys : List ℕ) → AreRowsOf table keys → AreRowsOf (forgotten table place) keys
+forgot table place keys rows = record {
+  taken = rows.taken;
+  beyond = λ key lt. let same = deadline_count table.deadlines place None in rows.beyond key (omega (arith, lt, same));
+  count = let same = deadline_count table.deadlines place None in let count = rows.count in omega (arith, count, same);
+}
+
+-- closing streams changed their rows, after the deadline of a place was forgotten
+pub closing_keeps : (old new : Table) (place : ℕ) (given left : List ℕ) →
+    KeepsClosingRows (forgotten old place) given new left → AreRowsOf old given → KeepsOtherPlaces old place new
+closing_keeps old new place given left h rows =
+    keeps_others old new place
+    (λ other side lt ne. h.others (forgot old place given rows) (key_of other side)
+        (let below = below_closing old other side lt in let same = deadline_count old.deadlines place None in omega (arith, below, same)))
+    (λ other ne. ap (λ (t : Table). slice_get t.deadlines other) h.same ∙ get_other old.deadlines place other None ne)

@@ -5,6 +5,8 @@ mod TableLemmas
 pub mod KeptRowLemmas
 mod UnpolledLemmas
 mod PollLemmas
+mod AtRestLemmas
+mod ControlLemmas
 pub mod RowLemmas
 pub mod InTimeLemmas
 mod BesideLemmas

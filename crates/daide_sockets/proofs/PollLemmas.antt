@@ -1,5 +1,5 @@
 -- A poll of a run: the places are polled, closing streams advance, and the control socket does.
-use Rattle.std.proofs.Common.{◌≡◌, ℕ, ◌+◌, ◌*◌, ◌≤◌, ◌<◌, Bool, true, false, List, [], ◌∷◌, ◌++◌, length, refl, sym, ap, ◌∙◌, subst, arith}
+use Rattle.std.proofs.Common.{◌≡◌, ℕ, zero, suc, ◌+◌, ◌*◌, ◌≤◌, ◌<◌, Bool, true, false, List, [], ◌∷◌, ◌++◌, length, refl, sym, ap, ◌∙◌, subst, arith}
 use Rattle.std.proofs.Common.{Option, Some, None}
 use Rattle.std.specs.Prelude.{slice_get, nat_lt}
 use Rattle.std.specs.declared.time.Duration.{Duration}
@@ -22,6 +22,7 @@ use Rattle.daide_sockets.specs.declared.control.Control.{Control}
 use Rattle.daide_sockets.specs.declared.control.ControlListener.{ControlListener}
 use Rattle.daide_sockets.specs.declared.control_connection.ControlConnection.{ControlConnection}
 use Rattle.daide_sockets.specs.declared.table.Row.{Row}
+use Rattle.daide_io.proofs.ReadyLemmas.{same_is_one}
 use Rattle.daide_sockets.proofs.KeptRowLemmas.{holds_rows}
 
 -- ---- what is watched changes nothing else
@@ -96,6 +97,26 @@ same_holds old new keys deadlines count taken rows = record {
   beyond = λ key lt. let below : key < first_closing old = omega (arith, lt, deadlines) in rows.beyond key below;
   count = let before = rows.count in omega (arith, before, count, deadlines);
 }
+
+-- ---- lists of places
+
+occurs_both : (place : ℕ) (xs ys : List ℕ) → occurrences_of place (xs ++ ys) ≡ occurrences_of place xs + occurrences_of place ys
+occurs_both place [] ys = omega arith
+occurs_both place (x ∷ xs) ys = let rest = occurs_both place xs ys in omega (arith, rest)
+
+-- a place among some is among more
+pub among_more : (place : ℕ) (xs ys : List ℕ) → is_among place xs ≡ true → is_among place (xs ++ ys) ≡ true
+among_more place xs ys h = let all = occurs_both place xs ys in grind (arith, h, all)
+
+pub among_later : (place : ℕ) (xs ys : List ℕ) → is_among place ys ≡ true → is_among place (xs ++ ys) ≡ true
+among_later place xs ys h = let all = occurs_both place xs ys in grind (arith, h, all)
+
+pub among_last : (place other : ℕ) (xs : List ℕ) → other ≡ place → is_among place (xs ++ other ∷ []) ≡ true
+among_last place other xs same =
+    let all = occurs_both place xs (other ∷ []) in
+    let one = same_is_one place in
+    let own : is_same other place ≡ is_same place place = ap (λ (k : ℕ). is_same k place) same in
+    grind (arith, all, one, own)
 
 module _ {N C S : Type 0} (transition : N → NetworkCall C → N → Type 0) (time : Option Duration) (woken more : List ℕ)
     (network polled_network new_network : N) (before watched polled first second third last : Table) (given left : List ℕ)
@@ -190,10 +211,6 @@ module _ {N C S : Type 0} (transition : N → NetworkCall C → N → Type 0) (t
 
   deadline_kept : (place : ℕ) → deadline_at last place ≡ deadline_at polled place
   deadline_kept place = ap (λ (d : List (Option Instant)). deadline_in (slice_get d place)) last_deadlines
-
-  occurs_both : (place : ℕ) (xs ys : List ℕ) → occurrences_of place (xs ++ ys) ≡ occurrences_of place xs + occurrences_of place ys
-  occurs_both place [] ys = omega arith
-  occurs_both place (x ∷ xs) ys = let rest = occurs_both place xs ys in omega (arith, rest)
 
   first_not : (place : ℕ) → is_among place (woken ++ more) ≡ false → is_among place woken ≡ false
   first_not place none =

@@ -2,7 +2,7 @@
 
 ghost use Rattle.std.specs.Duration.{as_nanos};
 ghost use Rattle.std.specs.Net.Socket.{socket_ip};
-ghost use Rattle.std.specs.Prelude.{◌≡◌, ℕ, ◌⊎◌, ◌<◌, ◌&&◌, nat_lt, IfSome, IfNone, None, Some, true, false, length, slice_set};
+ghost use Rattle.std.specs.Prelude.{◌≡◌, ℕ, ◌⊎◌, ◌<◌, ◌≤◌, ◌&&◌, nat_lt, IfSome, IfNone, None, Some, true, false, length, slice_set};
 ghost use Rattle.daide_io.specs.System.{Accepts, Connects};
 ghost use Rattle.daide_frame.specs.declared.side.Side.TheVariants.{Bot, Server};
 ghost use Rattle.daide_settings.specs.Ranges.{host_of, may_come};
@@ -82,11 +82,13 @@ impl<'w, N: Network, E: Write + Drop> Sockets<'w, N, E> {
     /// Takes out the bot at a place whose connect is under way, if there is one.
     fn take_arrival(&mut self, place: usize) -> Option<PendingConnection<'w, N::Connection>>
         ensures some { IfSome result (λ arrival. TakesOut self.old.arrivals.items place arrival self.new.arrivals.items) }
-        ensures none { IfNone result ((arrival_at self.old.arrivals.items place ≡ None)
-            × (self.new.arrivals.items ≡ self.old.arrivals.items)) }
+        ensures rows { IfSome result (λ _. (place < length self.old.poller.table.deadlines)
+            × (key_of place Server ≤ usize.MAX)) }
+        ensures none { IfNone result ((place < length self.old.poller.table.deadlines →
+            arrival_at self.old.arrivals.items place ≡ None) × (self.new.arrivals.items ≡ self.old.arrivals.items)) }
         ensures same { self.new ≡ record self.old { arrivals = self.new.arrivals } }
     {
-        if place >= self.arrivals.len() {
+        if place >= self.poller.table.places() || place >= self.arrivals.len() {
             return None;
         }
         self.arrivals[place].take()
