@@ -4,7 +4,7 @@ mod LingeringLemmas
 mod TableLemmas
 pub mod KeptRowLemmas
 mod UnpolledLemmas
-mod PollLemmas
+mod RunPollLemmas
 mod AtRestLemmas
 mod ControlLemmas
 pub mod RowLemmas

@@ -1,7 +1,7 @@
 use Rattle.std.proofs.Common.{◌≡◌, ℕ, ◌+◌, ◌<◌, List, [], ◌∷◌, ◌++◌, refl, sym, ap, ◌∙◌, below_more, arith}
 use Rattle.daide_io.specs.ReadyQueue.{ReadyView, woken}
 use Rattle.daide_io.proofs.ReadyLemmas.{woken_both}
-use Rattle.daide_sockets.proofs.PollLemmas.{among_last, among_more}
+use Rattle.daide_sockets.proofs.RunPollLemmas.{among_last, among_more}
 use Rattle.daide_sockets.proofs.system.Sockets.wake_stopped.Goals as goal
 
 pub loop-place-init : goal.loop-place-init
