@@ -2,12 +2,10 @@ mod PairingLemmas
 mod OnceLemmas
 mod LingeringLemmas
 mod TableLemmas
+pub mod KeptRowLemmas
+mod UnpolledLemmas
+mod PollLemmas
 pub mod RowLemmas
-mod ControlRowLemmas
-pub mod RunRowLemmas
-mod AtRestLemmas
-pub mod InterestLemmas
-mod WatchLemmas
 pub mod InTimeLemmas
 mod BesideLemmas
 mod FinishingLemmas

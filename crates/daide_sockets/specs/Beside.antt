@@ -1,15 +1,15 @@
--- What a poll watches beside the places: the listener, and the closing streams. (own)
+-- What a poll watches beside the places: the listener and the closing streams. (own)
 use Rattle.std.specs.Prelude.{◌||◌, ◌&&◌, not, Bool, true, List, [], ◌∷◌, Option, if◌then◌else◌, All}
 use Rattle.std.specs.declared.time.Duration.{Duration}
 use Rattle.std.specs.declared.time.Instant.{Instant}
 use Rattle.daide_buffered_io.specs.declared.readiness.Readiness.{Readiness}
 use Rattle.daide_buffered_io.specs.Buffers.{Buffer}
+use Rattle.daide_io.specs.Deadline.{earlier}
 use Rattle.daide_sockets.specs.declared.admission.Acceptor.{Acceptor}
-use Rattle.daide_sockets.specs.Accepting.{is_accept_due}
+use Rattle.daide_sockets.specs.Accepting.{is_bot_due}
 use Rattle.daide_sockets.specs.InTime.{IsInTimeFor, watching_all}
 use Rattle.daide_sockets.specs.Lingering.{ClosingStream}
 use Rattle.daide_sockets.specs.Sockets.{is_some_byte}
-use Rattle.daide_io.specs.Deadline.{earlier}
 use Rattle.daide_sockets.specs.Table.{Table, IsPollTime, merged, report_at}
 
 -- ---- a closing stream
@@ -42,12 +42,10 @@ closings_watched table (closing ∷ others) =
 
 -- ---- the listener
 
--- The listener, as a poll watches it: whether the run awaits bots and an accept is due; and the end of the pause of accepts.
+-- The listener, as a poll watches it: whether the poll is for bots too and an accept is due; and the end of the pause of
+-- accepts.
 abbrev pub listener_watched : Table → Acceptor → Bool × Option Instant
-listener_watched table acceptor = (
-  acceptor.awaits_bots && is_accept_due table acceptor.key acceptor.readiness acceptor.resumes_at,
-  acceptor.resumes_at,
-)
+listener_watched table acceptor = (acceptor.awaits_bots && is_bot_due table acceptor, acceptor.resumes_at)
 
 -- ---- a poll
 
@@ -63,8 +61,9 @@ pub record IsInTimeBeside {S : Type 0} (table : Table) (time : Option Duration) 
   pub accepts : IsInTimeFor table.reading time listener.0 listener.1
   pub closes : All (λ closing. IsInTimeFor table.reading time (may_close_on table closing) (closing_due closing)) closings
 
--- each poll that may block and watches these is in time for them
+-- each poll that may block, and watches these, is in time for them
 abbrev pub WaitsAreInTimeBeside : Type 0 → Type 0
 WaitsAreInTimeBeside S = (table : Table) (time : Option Duration) (listener : Bool × Option Instant)
-    (closings : List (ClosingStream S)) → IsPollTime true (watching_all table (others_watched table listener closings)) time →
+    (closings : List (ClosingStream S)) →
+    IsPollTime true (watching_all table (others_watched table listener closings)) time →
     IsInTimeBeside table time listener closings

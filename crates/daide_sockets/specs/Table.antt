@@ -88,6 +88,18 @@ without_report table key =
 abbrev pub first_closing : Table → ℕ
 first_closing table = 2 * length table.deadlines + 6
 
+-- the key of the listener for bots
+abbrev pub listener_key : Table → ℕ
+listener_key table = 2 * length table.deadlines
+
+-- the key of the listener for control connections
+abbrev pub control_key : Table → ℕ
+control_key table = 2 * length table.deadlines + 1
+
+-- the key of the control connection with this number, from 0 to 3
+abbrev pub control_connection_key : Table → ℕ → ℕ
+control_connection_key table number = 2 * length table.deadlines + 2 + number
+
 -- the row of a closing socket of which nothing is known
 abbrev pub taken_row : Row
 taken_row = record free_row { is_taken = true }

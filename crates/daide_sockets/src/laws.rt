@@ -6,7 +6,6 @@ ghost use Rattle.daide_sockets.specs.ClosingTime.{ClosingSocketsLeave};
 ghost use Rattle.daide_sockets.specs.ControlInTime.{ControlWaitsAreInTime};
 ghost use Rattle.daide_sockets.specs.InTime.{WaitsAreInTime};
 ghost use Rattle.daide_sockets.specs.PairedOnce.{SessionsComeOnce};
-ghost use Rattle.daide_sockets.specs.RowsOfRun.{NoRowLeaks};
 
 use daide_io::duplex::Duplex;
 use daide_io::network::Network;
@@ -65,17 +64,4 @@ pub fn sockets_are_accounted<P: Ports, S: Duplex + Drop>()
 /// more than 256 (`sockets_are_accounted`).
 pub fn closing_sockets_leave<P: Ports, S: Duplex + Drop, N: Network>()
     ensures { ClosingSocketsLeave S.to_give S.taken S.calls N P }
-{}
-
-/// No row leaks, and no two sockets share one. At any moment between two calls of a run over sockets, the taken rows of the
-/// table are exactly those of its sockets, one for each (`HoldsItsRows`). The listener has one until it is closed. Each
-/// session has two. Each bot that waits for its connect has one, and that connect has another. Each closing socket has one,
-/// and so have the control socket and each of its connections. So the taken rows are at most two for each session and each
-/// bot that waits, one for each closing socket, five for control, and one for the listener.
-///
-/// A run of sockets begins so (`Sockets::new`: `rows`). Each call says which rows change hands, as the sockets' own
-/// `transition` says (`HandsAlong`). The sessions are the ports that the run returned and did not get back (`SessionsGoOn`).
-/// That the loop gives back what it got is `each_row_is_held`.
-pub fn no_row_leaks<P: Ports, S: Duplex + Drop, N: Network>()
-    ensures { NoRowLeaks N P S }
 {}
