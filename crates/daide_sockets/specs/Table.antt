@@ -1,6 +1,6 @@
 -- The table of a run: what polls reported of its sockets, the deadlines of its places, and the time of a poll. (own)
 use Rattle.std.specs.Prelude.{◌≡◌, ℕ, ◌+◌, ◌-◌, ◌*◌, ◌/◌, ◌<◌, ◌≤◌, Bool, true, false, not, ◌&&◌, ◌||◌, List, [], ◌∷◌, length}
-use Rattle.std.specs.Prelude.{Option, Some, None, All, replicate, slice_get, slice_set}
+use Rattle.std.specs.Prelude.{Option, Some, None, nat_lt, if◌then◌else◌, replicate, slice_get, slice_set}
 use Rattle.std.specs.Duration.{as_nanos}
 use Rattle.std.specs.Time.{instant_nanos}
 use Rattle.std.specs.declared.time.Duration.{Duration}
@@ -209,10 +209,17 @@ pub record PollsOnce {N C : Type 0} (transition : N → NetworkCall C → N → 
   pub reads : transition polled (ReadsClock reading) new
   pub table : after ≡ record before { reading = latest before.reading reading; rows = with_events before.rows news }
 
+-- the places of those events whose key is less than `first`
+abbrev pub event_places : ℕ → List SocketEvent → List ℕ
+event_places first [] = []
+event_places first (event ∷ events) =
+    if nat_lt event.key first then event.key / 2 ∷ event_places first events else event_places first events
+
 -- The places that a poll wakes after it reported these events: each place of which it reported something, and each whose
 -- deadline is past. Any other place keeps its deadline.
 pub record WakesPlaces (news : List SocketEvent) (woken : List ℕ) (old new : Table) : Type 0 where
-  pub reported : All (λ event. event.key < 2 * length old.deadlines → is_among (event.key / 2) woken ≡ true) news
+  pub reported : (place : ℕ) → is_among place (event_places (2 * length old.deadlines) news) ≡ true →
+      is_among place woken ≡ true
   pub asleep : (place : ℕ) → is_among place woken ≡ false →
       (deadline_at new place ≡ deadline_at old place) × (is_past old.reading (deadline_at old place) ≡ false)
   pub places : length new.deadlines ≡ length old.deadlines

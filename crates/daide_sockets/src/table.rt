@@ -6,11 +6,12 @@
 //! free row. So an idle session makes no system call, and nothing looks at it.
 
 ghost use Rattle.std.specs.Duration.{as_nanos};
-ghost use Rattle.std.specs.Prelude.{◌≡◌, ℕ, List, [], ◌+◌, ◌*◌, ◌/◌, ◌<◌, ◌≤◌, ◌||◌, true, false, min, length, replicate, All, None, IsNone, IfSome, IfNone, IfOk};
+ghost use Rattle.std.specs.Prelude.{◌≡◌, ℕ, List, [], ◌+◌, ◌*◌, ◌<◌, ◌≤◌, ◌||◌, true, false, min, length, slice_get, replicate, None, IsNone, IfSome, IfNone, IfOk};
 ghost use Rattle.daide_frame.specs.declared.side.Side.TheVariants.{Bot, Server};
 ghost use Rattle.daide_io.specs.Deadline.{earlier};
 ghost use Rattle.daide_io.specs.ReadyQueue.{is_among, woken_all};
-ghost use Rattle.daide_sockets.specs.Table.{AreDeadlinesBounded, ForgetsPlaces, IsFull, IsUntil, TakesRow, WakesPlaces, forgotten, free_row, freed};
+ghost use Rattle.daide_sockets.specs.Table.{AreBounded, AreDeadlinesBounded, ForgetsPlaces, IsFull, IsUntil, TakesRow, WakesPlaces};
+ghost use Rattle.daide_sockets.specs.Table.{deadline_in, event_places, forgotten, free_row, freed, row_at};
 ghost use Rattle.daide_sockets.specs.Table.{has_report, is_reported_at, key_of, latest, merged, new_table, report_at, resting, unwatched};
 ghost use Rattle.daide_sockets.specs.Table.{watching, with_event, with_events, without_report, without_reports};
 ghost use Rattle.daide_sockets.specs.Times.{IsAfter, IsStallEnd, StallsNext, is_past, is_time_over};
@@ -225,6 +226,56 @@ fn no_deadlines(alloc: Global, places: usize) -> Result<Vec<Option<Instant>>, Al
     Ok(deadlines)
 }
 
+/// Returns the key of the first free row, from `first` on; `None` if all are taken.
+fn first_free(rows: &[Row], first: usize) -> Option<usize>
+    ensures some { IfSome result (λ key. (first ≤ key) × (key < length rows.now) × ((row_at rows.now key).is_taken ≡ false)) }
+    ensures none { IfNone result ((key : ℕ) → first ≤ key → key < length rows.now → (row_at rows.now key).is_taken ≡ true) }
+{
+    for key in first..rows.len() {
+        if !rows[key].is_taken {
+            return Some(key);
+        }
+    }
+    None
+}
+
+/// Forgets each of these deadlines.
+fn forget_all(deadlines: &mut [Option<Instant>])
+    ensures none { (place : ℕ) → deadline_in (slice_get deadlines.new place) ≡ None }
+    ensures places { length deadlines.new ≡ length deadlines.old }
+{
+    for place in 0..deadlines.len() {
+        deadlines[place] = None;
+    }
+}
+
+/// Wakes each place whose deadline is past, and forgets that. Returns the nearest deadline of the others.
+#[inline(never)]
+fn wake_late<A: Allocator>(
+    now: Option<Instant>,
+    deadlines: &mut [Option<Instant>],
+    ready: &mut ReadyQueue<A>,
+) -> Option<Instant>
+    ensures woken { (woken : List ℕ) × (ready.new ≡ woken_all woken ready.old)
+        × ((place : ℕ) → is_among place woken ≡ false →
+        (deadline_in (slice_get deadlines.new place) ≡ deadline_in (slice_get deadlines.old place))
+        × (is_past now (deadline_in (slice_get deadlines.old place)) ≡ false)) }
+    ensures bounded { AreBounded result deadlines.new }
+    ensures places { length deadlines.new ≡ length deadlines.old }
+{
+    let mut nearest = None;
+    for place in 0..deadlines.len() {
+        let due = deadlines[place];
+        if is_past(now, due) {
+            deadlines[place] = None;
+            ready.wake(place);
+        } else {
+            nearest = earlier(nearest, due);
+        }
+    }
+    nearest
+}
+
 impl SocketTable {
     /// Creates a table for this number of places and of closing sockets, before any reading of the clock. Fails if its
     /// memory is refused, or if they are too many.
@@ -249,7 +300,7 @@ impl SocketTable {
     pub(crate) fn is_bounded(&self)
         ensures { AreDeadlinesBounded self.now }
     {
-        let _ = self.due;
+        let _ = &self.due;
     }
 
     /// Returns the last reading of the clock; `None` if it cannot be read.
@@ -311,14 +362,12 @@ impl SocketTable {
         ensures row { IfSome result (λ key. TakesRow self.old key self.new) }
         ensures full { IfNone result (IsFull self.old × (self.new ≡ self.old)) }
     {
-        for key in self.listener_key() + FIXED_ROWS..self.rows.len() {
-            if !self.rows[key].is_taken {
-                self.rows[key].is_taken = true;
-                self.rows[key].report = Readiness::UNKNOWN;
-                return Some(key);
-            }
-        }
-        None
+        let key = first_free(&self.rows, self.listener_key() + FIXED_ROWS)?;
+        self.rows[key] = Row {
+            is_taken: true,
+            ..Row::FREE
+        };
+        Some(key)
     }
 
     /// Clears a row, since another socket may have it.
@@ -332,7 +381,8 @@ impl SocketTable {
 
     /// Returns what polls reported of a socket since it last took the report.
     pub fn report(&self, key: usize) -> Readiness
-        ensures { result ≡ report_at self.now key }
+        ensures report { result ≡ report_at self.now key }
+        ensures few { length self.now.rows ≤ usize.MAX }
     {
         match self.rows.get(key) {
             Some(row) => row.report,
@@ -345,6 +395,7 @@ impl SocketTable {
     pub fn take_report(&mut self, key: usize) -> Readiness
         ensures report { result ≡ report_at self.old key }
         ensures table { self.new ≡ without_report self.old key }
+        ensures few { length self.old.rows ≤ usize.MAX }
     {
         if key >= self.rows.len() {
             return Readiness::UNKNOWN;
@@ -403,8 +454,7 @@ impl SocketTable {
 
     /// Wakes the places of which a poll reported these events.
     fn wake_reported<A: Allocator>(&self, news: &[SocketEvent], ready: &mut ReadyQueue<A>)
-        ensures { (woken : List ℕ) × (ready.new ≡ woken_all woken ready.old)
-            × All (λ event. event.key < 2 * length self.now.deadlines → is_among (event.key / 2) woken ≡ true) news.now }
+        ensures { ready.new ≡ woken_all (event_places (2 * length self.now.deadlines) news.now) ready.old }
     {
         for event in news {
             if event.key < self.listener_key() {
@@ -420,7 +470,7 @@ impl SocketTable {
     {
         self.wake_reported(news, ready);
         if is_past(self.reading, self.due) {
-            self.wake_late(ready);
+            self.due = wake_late(self.reading, &mut self.deadlines, ready);
         }
     }
 
@@ -450,29 +500,8 @@ impl SocketTable {
     pub(crate) fn forget_places(&mut self)
         ensures { ForgetsPlaces self.old self.new }
     {
-        for place in 0..self.deadlines.len() {
-            self.deadlines[place] = None;
-        }
+        forget_all(&mut self.deadlines);
         self.due = None;
-    }
-
-    /// Wakes each place whose deadline is past, and finds the nearest deadline of the others.
-    #[inline(never)]
-    fn wake_late<A: Allocator>(&mut self, ready: &mut ReadyQueue<A>)
-        ensures { (woken : List ℕ) × (ready.new ≡ woken_all woken ready.old)
-            × WakesPlaces [] woken self.old self.new }
-    {
-        let mut nearest = None;
-        for place in 0..self.deadlines.len() {
-            let due = self.deadlines[place];
-            if is_past(self.reading, due) {
-                self.deadlines[place] = None;
-                ready.wake(place);
-            } else {
-                nearest = earlier(nearest, due);
-            }
-        }
-        self.due = nearest;
     }
 
     /// Records a reading of the clock. Without one the last reading stays.
