@@ -7,10 +7,10 @@ use Rattle.daide_frame.specs.declared.side.Side.{Side}
 use Rattle.daide_frame.specs.declared.side.Side.TheVariants.{Bot, Server}
 use Rattle.daide_buffered_io.specs.declared.readiness.Readiness.{Readiness}
 use Rattle.daide_io.specs.ReadyQueue.{one_if, occurrences_of}
-use Rattle.daide_sockets.specs.KeptRows.{ChangesRows}
+use Rattle.daide_sockets.specs.KeptRows.{ChangesRows, IsAcceptRow, IsRowOf, KeepsReportsOf}
 use Rattle.daide_sockets.specs.Lingering.{ClosingStream}
 use Rattle.daide_sockets.specs.Rows.{AreRowsOf, KeepsClosingRows, closing_keys, taken_at}
-use Rattle.daide_sockets.specs.Table.{Table, changed, deadline_in, first_closing, forgotten, free_row, freed, key_of, no_report, report_at, resting}
+use Rattle.daide_sockets.specs.Table.{Table, changed, deadline_in, control_key, first_closing, forgotten, free_row, freed, key_of, listener_key, no_report, report_at, resting}
 use Rattle.daide_sockets.specs.Table.{row_at, without_report}
 use Rattle.daide_sockets.specs.Wakeups.{KeepsPlace, KeepsOtherPlaces}
 use Rattle.daide_sockets.specs.declared.table.Row.{Row}
@@ -224,3 +224,91 @@ closing_keeps old new place given left h rows =
     (λ other side lt ne. h.others (forgot old place given rows) (key_of other side)
         (let below = below_closing old other side lt in let same = deadline_count old.deadlines place None in omega (arith, below, same)))
     (λ other ne. ap (λ (t : Table). slice_get t.deadlines other) h.same ∙ get_other old.deadlines place other None ne)
+
+-- ---- an accept
+
+pub row_below : (table : Table) (place key : ℕ) → IsRowOf table place key → key < listener_key table
+row_below table place key (lt, (inl e)) = omega (arith, lt, e)
+row_below table place key (lt, (inr e)) = omega (arith, lt, e)
+
+pub accept_below : (table : Table) (place key : ℕ) → IsAcceptRow table place key → key < control_key table
+accept_below table place key (inl e) = omega (arith, e)
+accept_below table place key (inr own) = let lt = row_below table place key own in omega (arith, lt)
+
+pub accept_beside : (old new : Table) (place : ℕ) → ChangesRows (IsAcceptRow old place) old new →
+    KeepsReportsOf (λ key. control_key old ≤ key) old new
+accept_beside old new place h key le =
+    keeps_report (IsAcceptRow old place) old new key
+    (λ own. absurd (let lt = accept_below old place key own in omega (arith, lt, le))) h
+
+pub accept_holds : (old new : Table) (place : ℕ) (keys : List ℕ) → ChangesRows (IsAcceptRow old place) old new →
+    AreRowsOf old keys → AreRowsOf new keys
+accept_holds old new place keys h rows =
+    holds_rows (IsAcceptRow old place) old new keys
+    (λ key own. let lt = accept_below old place key own in omega (arith, lt)) h rows
+
+not_accept : (table : Table) (place other : ℕ) (side : Side) → other < length table.deadlines → (place == other) ≡ false →
+    IsAcceptRow table place (key_of other side) → ⊥
+not_accept table place other Bot lt ne (inl e) = absurd (omega (arith, lt, e))
+not_accept table place other Server lt ne (inl e) = absurd (omega (arith, lt, e))
+not_accept table place other side lt ne (inr (has, (inl e))) = keys_apart place other Bot side ne e
+not_accept table place other side lt ne (inr (has, (inr e))) = keys_apart place other Server side ne e
+
+pub accept_others : (old new : Table) (place : ℕ) → ChangesRows (IsAcceptRow old place) old new → KeepsOtherPlaces old place new
+accept_others old new place h =
+    place_changes old new new place (IsAcceptRow old place) (not_accept old place) h refl (λ other ne. refl)
+
+pub accept_only : (old new : Table) (place bot : ℕ) → place < length old.deadlines → bot ≡ key_of place Bot →
+    ChangesRows (λ row. (row ≡ listener_key old) ⊎ (row ≡ bot)) old new → ChangesRows (IsAcceptRow old place) old new
+accept_only old new place bot lt is_bot h = changes_more (λ row. (row ≡ listener_key old) ⊎ (row ≡ bot)) (IsAcceptRow old place) old new wider h
+  where
+    wider : (row : ℕ) → (row ≡ listener_key old) ⊎ (row ≡ bot) → IsAcceptRow old place row
+    wider row (inl e) = inl e
+    wider row (inr e) = inr (lt, inl (e ∙ is_bot))
+
+-- an accept, and then a connect
+pub accept_then : (old mid new : Table) (place bot server : ℕ) → place < length old.deadlines → bot ≡ key_of place Bot →
+    server ≡ key_of place Server → ChangesRows (λ row. (row ≡ listener_key old) ⊎ (row ≡ bot)) old mid →
+    ChangesRows (λ row. row ≡ server) mid new → ChangesRows (IsAcceptRow old place) old new
+accept_then old mid new place bot server lt is_bot is_server h k =
+    changes_then (IsAcceptRow old place) old mid new
+    (accept_only old mid place bot lt is_bot h)
+    (changes_more (λ row. row ≡ server) (IsAcceptRow old place) mid new (λ row e. inr (lt, inr (e ∙ is_server))) k)
+
+-- ---- a connect
+
+pub connect_others : (old mid new : Table) (place key : ℕ) (due : Option Instant) → key ≡ key_of place Server →
+    ChangesRows (λ row. row ≡ key) old mid → new ≡ resting mid place due → KeepsOtherPlaces old place new
+connect_others old mid new place key due is h e =
+    place_changes old mid new place (λ row. row ≡ key)
+    (λ other side lt ne own. keys_apart place other Server side ne (own ∙ is)) h (ap (λ (t : Table). t.rows) e)
+    (λ other ne. ap (λ (t : Table). slice_get t.deadlines other) e ∙ rests_others mid place other due ne)
+
+pub connect_kept : (old new : Table) (place key : ℕ) → key ≡ key_of place Server → ChangesRows (λ row. row ≡ key) old new →
+    KeepsOtherPlaces old place new
+connect_kept old new place key is h =
+    place_changes old new new place (λ row. row ≡ key)
+    (λ other side lt ne own. keys_apart place other Server side ne (own ∙ is)) h refl (λ other ne. refl)
+
+-- the row of the bot, and the rows beside the places, keep their reports
+pub connect_bot : (old new : Table) (place key : ℕ) → key ≡ key_of place Server → ChangesRows (λ row. row ≡ key) old new →
+    report_at new (key_of place Bot) ≡ report_at old (key_of place Bot)
+connect_bot old new place key is h =
+    keeps_report (λ row. row ≡ key) old new (key_of place Bot) (λ own. absurd (omega (arith, own, is))) h
+
+pub connect_beside : (old new : Table) (place key : ℕ) → place < length old.deadlines → key ≡ key_of place Server →
+    ChangesRows (λ row. row ≡ key) old new → KeepsReportsOf (λ key. listener_key old ≤ key) old new
+connect_beside old new place key lt is h row le =
+    keeps_report (λ row. row ≡ key) old new row (λ own. absurd (omega (arith, own, is, lt, le))) h
+
+pub connect_holds : (old new : Table) (place key : ℕ) (keys : List ℕ) → place < length old.deadlines → key ≡ key_of place Server →
+    ChangesRows (λ row. row ≡ key) old new → AreRowsOf old keys → AreRowsOf new keys
+connect_holds old new place key keys lt is h rows =
+    holds_rows (λ row. row ≡ key) old new keys (λ row own. omega (arith, own, is, lt)) h rows
+
+-- the deadline of a place that rests
+pub rests_until : (deadlines : List (Option Instant)) (place : ℕ) (due : Option Instant) → place < length deadlines →
+    deadline_in (slice_get (slice_set deadlines place due) place) ≡ due
+rests_until [] place due lt = absurd (omega (arith, lt))
+rests_until (first ∷ deadlines) zero due lt = refl
+rests_until (first ∷ deadlines) (suc place) due lt = rests_until deadlines place due (omega (arith, lt))
