@@ -7,11 +7,11 @@ use Rattle.daide_frame.specs.declared.side.Side.{Side}
 use Rattle.daide_frame.specs.declared.side.Side.TheVariants.{Bot, Server}
 use Rattle.daide_buffered_io.specs.declared.readiness.Readiness.{Readiness}
 use Rattle.daide_io.specs.ReadyQueue.{one_if, occurrences_of}
-use Rattle.daide_sockets.specs.KeptRows.{ChangesRows, IsAcceptRow, IsRowOf, KeepsReportsOf}
+use Rattle.daide_sockets.specs.KeptRows.{ChangesRows, IsAcceptRow, IsFixedRow, IsRowOf, KeepsReportsOf}
 use Rattle.daide_sockets.specs.Lingering.{ClosingStream}
 use Rattle.daide_sockets.specs.Rows.{AreRowsOf, KeepsClosingRows, closing_keys, taken_at}
 use Rattle.daide_sockets.specs.Table.{Table, changed, deadline_in, control_key, first_closing, forgotten, free_row, freed, key_of, listener_key, no_report, report_at, resting}
-use Rattle.daide_sockets.specs.Table.{row_at, without_report}
+use Rattle.daide_sockets.specs.Table.{row_at, without_report, without_reports}
 use Rattle.daide_sockets.specs.Wakeups.{KeepsPlace, KeepsOtherPlaces}
 use Rattle.daide_sockets.specs.declared.table.Row.{Row}
 
@@ -203,18 +203,34 @@ pub rests_others : (table : Table) (place other : ℕ) (due : Option Instant) �
     slice_get (resting table place due).deadlines other ≡ slice_get table.deadlines other
 rests_others table place other due ne = get_other table.deadlines place other due ne
 
-deadline_count : (xs : List (Option Instant)) (at : ℕ) (x : Option Instant) → length (slice_set xs at x) ≡ length xs
+pub deadline_count : (xs : List (Option Instant)) (at : ℕ) (x : Option Instant) → length (slice_set xs at x) ≡ length xs
 deadline_count [] at x = refl
 deadline_count (y ∷ xs) zero x = refl
 deadline_count (y ∷ xs) (suc at) x = ap suc (deadline_count xs at x)
 
--- the rows stay those of closing streams if the deadline of a place is forgotten
-pub forgot : (table : Table) (place : ℕ) (keys : List ℕ) → AreRowsOf table keys → AreRowsOf (forgotten table place) keys
-forgot table place keys rows = record {
-  taken = rows.taken;
-  beyond = λ key lt. let same = deadline_count table.deadlines place None in rows.beyond key (omega (arith, lt, same));
-  count = let same = deadline_count table.deadlines place None in let count = rows.count in omega (arith, count, same);
+-- the rows stay those of closing streams if no row is taken or freed, and there are as many places
+pub same_holds : (old new : Table) (keys : List ℕ) → length new.deadlines ≡ length old.deadlines →
+    length new.rows ≡ length old.rows →
+    ((key : ℕ) → (row_at new.rows key).is_taken ≡ (row_at old.rows key).is_taken) → AreRowsOf old keys → AreRowsOf new keys
+same_holds old new keys deadlines count taken rows = record {
+  taken = λ key. ap one_if (taken key) ∙ rows.taken key;
+  beyond = λ key lt. let below : key < first_closing old = omega (arith, lt, deadlines) in rows.beyond key below;
+  count = let before = rows.count in omega (arith, before, count, deadlines);
 }
+
+pub forgot : (table : Table) (place : ℕ) (keys : List ℕ) → AreRowsOf table keys → AreRowsOf (forgotten table place) keys
+forgot table place keys =
+    same_holds table (forgotten table place) keys (deadline_count table.deadlines place None) refl (λ key. refl)
+
+pub rested_holds : (old new : Table) (place : ℕ) (due : Option Instant) (keys : List ℕ) → new ≡ resting old place due →
+    AreRowsOf old keys → AreRowsOf new keys
+rested_holds old new place due keys e rows =
+    subst (λ (t : Table). AreRowsOf t keys) (sym e)
+    (same_holds old (resting old place due) keys (deadline_count old.deadlines place due) refl (λ key. refl) rows)
+
+pub rested_places : (old new : Table) (place : ℕ) (due : Option Instant) → new ≡ resting old place due →
+    length new.deadlines ≡ length old.deadlines
+rested_places old new place due e = ap (λ (t : Table). length t.deadlines) e ∙ deadline_count old.deadlines place due
 
 -- closing streams changed their rows, after the deadline of a place was forgotten
 pub closing_keeps : (old new : Table) (place : ℕ) (given left : List ℕ) →
@@ -312,3 +328,121 @@ pub rests_until : (deadlines : List (Option Instant)) (place : ℕ) (due : Optio
 rests_until [] place due lt = absurd (omega (arith, lt))
 rests_until (first ∷ deadlines) zero due lt = refl
 rests_until (first ∷ deadlines) (suc place) due lt = rests_until deadlines place due (omega (arith, lt))
+
+-- ---- the reports of a place are taken
+
+abbrev IsOwn : ℕ → ℕ → Type 0
+IsOwn place row = (row ≡ key_of place Bot) ⊎ (row ≡ key_of place Server)
+
+pub reports_change : (old new : Table) (place : ℕ) → new ≡ without_reports old place → ChangesRows (IsOwn place) old new
+reports_change old new place e =
+    let mid = without_report old (key_of place Bot) in
+    subst (ChangesRows (IsOwn place) old) (sym e)
+    (changes_then (IsOwn place) old mid (without_reports old place)
+    (changes_more (λ row. row ≡ key_of place Bot) (IsOwn place) old mid (λ row is. inl is) (report_changes old mid (key_of place Bot) refl))
+    (changes_more (λ row. row ≡ key_of place Server) (IsOwn place) mid (without_reports old place) (λ row is. inr is)
+    (report_changes mid (without_reports old place) (key_of place Server) refl)))
+
+stays_taken : (rows : List Row) (at key : ℕ) →
+    (row_at (changed rows at (record (row_at rows at) { report = no_report })) key).is_taken ≡ (row_at rows key).is_taken
+stays_taken [] at key = refl
+stays_taken (first ∷ rows) zero zero = refl
+stays_taken (first ∷ rows) zero (suc key) = refl
+stays_taken (first ∷ rows) (suc at) zero = refl
+stays_taken (first ∷ rows) (suc at) (suc key) = stays_taken rows at key
+
+pub reports_hold : (old new : Table) (place : ℕ) (keys : List ℕ) → new ≡ without_reports old place → AreRowsOf old keys →
+    AreRowsOf new keys
+reports_hold old new place keys e rows =
+    let mid = without_report old (key_of place Bot) in
+    subst (λ (t : Table). AreRowsOf t keys) (sym e)
+    (same_holds mid (without_reports old place) keys refl
+    (row_count mid.rows (key_of place Server) (record (row_at mid.rows (key_of place Server)) { report = no_report }))
+    (λ key. stays_taken mid.rows (key_of place Server) key)
+    (same_holds old mid keys refl
+    (row_count old.rows (key_of place Bot) (record (row_at old.rows (key_of place Bot)) { report = no_report }))
+    (λ key. stays_taken old.rows (key_of place Bot) key) rows))
+
+own_below : (table : Table) (place row : ℕ) → place < length table.deadlines → IsOwn place row → row < listener_key table
+own_below table place row lt (inl e) = omega (arith, lt, e)
+own_below table place row lt (inr e) = omega (arith, lt, e)
+
+-- a turn keeps what was reported beside the places
+pub turn_beside : (old new : Table) (place : ℕ) → new ≡ without_reports old place → place < length old.deadlines →
+    KeepsReportsOf (λ key. listener_key old ≤ key) old new
+turn_beside old new place e lt key le =
+    keeps_report (IsOwn place) old new key (λ own. absurd (let below = own_below old place key lt own in omega (arith, below, le)))
+    (reports_change old new place e)
+
+-- ---- sockets of a session begin to close
+
+module _ (old new : Table) (place : ℕ) (given left : List ℕ)
+    (h : KeepsClosingRows (without_reports (forgotten old place) place) given new left) (rows : AreRowsOf old given) where
+  quiet : Table
+  quiet = without_reports (forgotten old place) place
+
+  quiet_holds : AreRowsOf quiet given
+  quiet_holds = reports_hold (forgotten old place) quiet place given refl (forgot old place given rows)
+
+  quiet_changes : ChangesRows (IsOwn place) (forgotten old place) quiet
+  quiet_changes = reports_change (forgotten old place) quiet place refl
+
+  pub retire_holds : AreRowsOf new left
+  retire_holds = h.taken quiet_holds
+
+  count : length quiet.deadlines ≡ length old.deadlines
+  count = ap (λ (t : Table). length t.deadlines) quiet_changes.same ∙ deadline_count old.deadlines place None
+
+  row_kept : (key : ℕ) → key < first_closing old → (IsOwn place key → ⊥) → row_at new.rows key ≡ row_at old.rows key
+  row_kept key lt own = h.others quiet_holds key (omega (arith, lt, count)) ∙ quiet_changes.others key own
+
+  not_own : (other : ℕ) (side : Side) → (place == other) ≡ false → IsOwn place (key_of other side) → ⊥
+  not_own other side ne (inl e) = keys_apart place other Bot side ne e
+  not_own other side ne (inr e) = keys_apart place other Server side ne e
+
+  pub retire_others : KeepsOtherPlaces old place new
+  retire_others = keeps_others old new place
+      (λ other side lt ne. row_kept (key_of other side) (below_closing old other side lt) (not_own other side ne))
+      (λ other ne. ap (λ (t : Table). slice_get t.deadlines other) h.same
+          ∙ ap (λ (t : Table). slice_get t.deadlines other) quiet_changes.same ∙ get_other old.deadlines place other None ne)
+
+  pub retire_beside : place < length old.deadlines → KeepsReportsOf (IsFixedRow old) old new
+  retire_beside lt key fixed =
+      ap (λ (r : Row). r.report) (row_kept key fixed.1 (λ own. absurd (let below = own_below old place key lt own in
+      let from = fixed.0 in omega (arith, below, from))))
+
+  pub retire_places : length new.deadlines ≡ length old.deadlines
+  retire_places = ap (λ (t : Table). length t.deadlines) h.same ∙ count
+
+-- the bot of a connect that failed begins to close
+module _ (old mid new : Table) (place key : ℕ) (given left : List ℕ) (lt : place < length old.deadlines)
+    (is : key ≡ key_of place Server) (connects : ChangesRows (λ row. row ≡ key) old mid)
+    (h : KeepsClosingRows (forgotten mid place) given new left) (rows : AreRowsOf old given) where
+  mid_holds : AreRowsOf mid given
+  mid_holds = connect_holds old mid place key given lt is connects rows
+
+  forgotten_holds : AreRowsOf (forgotten mid place) given
+  forgotten_holds = forgot mid place given mid_holds
+
+  pub failed_holds : AreRowsOf new left
+  failed_holds = h.taken forgotten_holds
+
+  mid_count : length (forgotten mid place).deadlines ≡ length old.deadlines
+  mid_count = deadline_count mid.deadlines place None ∙ ap (λ (t : Table). length t.deadlines) connects.same
+
+  failed_row : (row : ℕ) → row < first_closing old → (row ≡ key → ⊥) → row_at new.rows row ≡ row_at old.rows row
+  failed_row row lt own = h.others forgotten_holds row (omega (arith, lt, mid_count)) ∙ connects.others row own
+
+  pub failed_others : KeepsOtherPlaces old place new
+  failed_others = keeps_others old new place
+      (λ other side few ne. failed_row (key_of other side) (below_closing old other side few)
+          (λ own. keys_apart place other Server side ne (own ∙ is)))
+      (λ other ne. ap (λ (t : Table). slice_get t.deadlines other) h.same ∙ get_other mid.deadlines place other None ne
+          ∙ ap (λ (t : Table). slice_get t.deadlines other) connects.same)
+
+  pub failed_beside : KeepsReportsOf (IsFixedRow old) old new
+  failed_beside row fixed =
+      ap (λ (r : Row). r.report) (failed_row row fixed.1 (λ own. absurd (let from = fixed.0 in omega (arith, own, is, lt, from))))
+
+  pub failed_places : length new.deadlines ≡ length old.deadlines
+  failed_places = ap (λ (t : Table). length t.deadlines) h.same ∙ mid_count

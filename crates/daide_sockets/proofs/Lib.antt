@@ -4,6 +4,7 @@ mod LingeringLemmas
 mod TableLemmas
 pub mod KeptRowLemmas
 mod UnpolledLemmas
+mod PollLemmas
 mod RunPollLemmas
 mod AtRestLemmas
 mod ControlLemmas

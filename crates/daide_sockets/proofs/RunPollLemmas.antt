@@ -23,7 +23,7 @@ use Rattle.daide_sockets.specs.declared.control.ControlListener.{ControlListener
 use Rattle.daide_sockets.specs.declared.control_connection.ControlConnection.{ControlConnection}
 use Rattle.daide_sockets.specs.declared.table.Row.{Row}
 use Rattle.daide_io.proofs.ReadyLemmas.{same_is_one}
-use Rattle.daide_sockets.proofs.KeptRowLemmas.{holds_rows}
+use Rattle.daide_sockets.proofs.KeptRowLemmas.{holds_rows, same_holds}
 
 -- ---- what is watched changes nothing else
 
@@ -88,15 +88,6 @@ events_count [] rows = refl
 events_count (event ∷ events) rows =
     events_count events (with_event rows event)
     ∙ count_changed rows event.key (record (row_at rows event.key) { report = merged (row_at rows event.key).report (report_of event) })
-
--- rows and deadlines of the same numbers hold the same rows
-same_holds : (old new : Table) (keys : List ℕ) → length new.deadlines ≡ length old.deadlines → length new.rows ≡ length old.rows →
-    ((key : ℕ) → (row_at new.rows key).is_taken ≡ (row_at old.rows key).is_taken) → AreRowsOf old keys → AreRowsOf new keys
-same_holds old new keys deadlines count taken rows = record {
-  taken = λ key. ap one_if (taken key) ∙ rows.taken key;
-  beyond = λ key lt. let below : key < first_closing old = omega (arith, lt, deadlines) in rows.beyond key below;
-  count = let before = rows.count in omega (arith, before, count, deadlines);
-}
 
 -- ---- lists of places
 

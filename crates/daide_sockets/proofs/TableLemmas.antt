@@ -4,15 +4,18 @@ use Rattle.std.proofs.Common.{refl, ap, sym, ◌∙◌, subst, arith, ◌==◌, 
 use Rattle.std.proofs.lemmas.Bool.{eqb-true, eqb-false, leb-true, leb-false, lt-leb, ltb-true, ltb-false, lt-ltb}
 use Rattle.std.proofs.lemmas.List.{replicate-append-replicate, length-replicate}
 use Rattle.std.proofs.lemmas.Option.{slice_get-get_or, slice_get_past}
-use Rattle.std.specs.Prelude.{if◌then◌else◌, nat_le, nat_lt, replicate, slice_get, slice_set, Option, Some, None}
+use Rattle.std.specs.Prelude.{◌/◌, if◌then◌else◌, nat_le, nat_lt, replicate, slice_get, slice_set, Option, Some, None}
 use Rattle.std.specs.Time.{instant_nanos}
 use Rattle.std.specs.declared.time.Instant.{Instant}
+use Rattle.daide_frame.specs.declared.side.Side.{Side}
+use Rattle.daide_frame.specs.declared.side.Side.TheVariants.{Bot, Server}
 use Rattle.daide_io.specs.declared.network.SocketEvent.{SocketEvent}
 use Rattle.daide_io.specs.Deadline.{earlier, IsNotBefore}
 use Rattle.daide_io.specs.ReadyQueue.{ReadyView, is_same, is_among, occurrences_of, woken, woken_all}
 use Rattle.daide_io.proofs.ReadyLemmas.{occurrences_both, same_is_one, woken_both}
 use Rattle.daide_sockets.specs.declared.table.Row.{Row}
-use Rattle.daide_sockets.specs.Table.{Table, WakesPlaces, AreBounded, deadline_at, deadline_in, event_places, free_row, row_at, row_or_free}
+use Rattle.daide_sockets.specs.Table.{Table, WakesPlaces, AreBounded, changed, deadline_at, deadline_in, event_places, key_of, row_at, row_or_free}
+use Rattle.daide_sockets.specs.Table.{with_event, with_events}
 use Rattle.daide_sockets.specs.Times.{is_past}
 
 -- ---- new tables
@@ -38,14 +41,24 @@ set_here [] (suc place) = refl
 set_here (due ∷ deadlines) zero = refl
 set_here (due ∷ deadlines) (suc place) = set_here deadlines place
 
+-- another element of a list is unchanged
+pub get_elsewhere : {X : Type 0} (xs : List X) (at other : ℕ) (x : X) → other ≢ at →
+    slice_get (slice_set xs at x) other ≡ slice_get xs other
+get_elsewhere [] at other x far = refl
+get_elsewhere (one ∷ xs) zero zero x far = absurd (far refl)
+get_elsewhere (one ∷ xs) zero (suc other) x far = refl
+get_elsewhere (one ∷ xs) (suc at) zero x far = refl
+get_elsewhere (one ∷ xs) (suc at) (suc other) x far =
+    get_elsewhere xs at other x (λ same. far (ap (λ (n : ℕ). suc n) same))
+
 set_elsewhere : (deadlines : List (Option Instant)) (place other : ℕ) (due : Option Instant) → other ≢ place →
     due_at (slice_set deadlines place due) other ≡ due_at deadlines other
-set_elsewhere [] place other due far = refl
-set_elsewhere (one ∷ deadlines) zero zero due far = absurd (far refl)
-set_elsewhere (one ∷ deadlines) zero (suc other) due far = refl
-set_elsewhere (one ∷ deadlines) (suc place) zero due far = refl
-set_elsewhere (one ∷ deadlines) (suc place) (suc other) due far =
-    set_elsewhere deadlines place other due (λ same. far (ap (λ (n : ℕ). suc n) same))
+set_elsewhere deadlines place other due far =
+    ap (λ (d : Option (Option Instant)). deadline_in d) (get_elsewhere deadlines place other due far)
+
+-- another row is unchanged
+pub row_elsewhere : (rows : List Row) (at key : ℕ) (row : Row) → key ≢ at → row_at (changed rows at row) key ≡ row_at rows key
+row_elsewhere rows at key row far = ap (λ (r : Option Row). row_or_free r) (get_elsewhere rows at key row far)
 
 past_end : (deadlines : List (Option Instant)) (place : ℕ) → length deadlines ≤ place → due_at deadlines place ≡ None
 past_end deadlines place le = ap (λ (d : Option (Option Instant)). deadline_in d) (slice_get_past deadlines place le)
@@ -150,6 +163,38 @@ in_last place places =
     (omega (arith, own, same_is_one place, occurrences_both place places (place ∷ [])))
 
 -- ---- a poll
+
+half : (place : ℕ) (side : Side) → key_of place side / 2 ≡ place
+half place Bot = omega arith
+half place Server = omega arith
+
+-- a place of which no event is keeps its rows
+pub row_untouched : (first place : ℕ) (side : Side) (events : List SocketEvent) (rows : List Row) → key_of place side < first →
+    is_among place (event_places first events) ≡ false →
+    row_at (with_events rows events) (key_of place side) ≡ row_at rows (key_of place side)
+row_untouched first place side [] rows lt away = refl
+row_untouched first place side (event ∷ events) rows lt away =
+    by (nat_lt event.key first) refl away (row_untouched first place side events (with_event rows event) lt)
+  where
+    key : ℕ
+    key = key_of place side
+    by : (inside : Bool) → nat_lt event.key first ≡ inside →
+        is_among place (if inside then event.key / 2 ∷ event_places first events else event_places first events) ≡ false →
+        (is_among place (event_places first events) ≡ false →
+        row_at (with_events (with_event rows event) events) key ≡ row_at (with_event rows event) key) →
+        row_at (with_events (with_event rows event) events) key ≡ row_at rows key
+    by true e none rest =
+        let zero_of = none_among place (event.key / 2 ∷ event_places first events) none in
+        let far : key ≢ event.key = λ same.
+            let at : event.key / 2 ≡ place = ap (λ (n : ℕ). n / 2) (sym same) ∙ half place side in
+            let own : is_same (event.key / 2) place ≡ 1 = ap (λ (n : ℕ). is_same n place) at ∙ same_is_one place in
+            absurd (omega (arith, zero_of, own)) in
+        rest (not_among place (event_places first events) (omega (arith, zero_of)))
+        ∙ row_elsewhere rows event.key key _ far
+    by false e none rest =
+        let past = ltb-false event.key first e in
+        let far : key ≢ event.key = λ same. absurd (omega (arith, past, lt, same)) in
+        rest none ∙ row_elsewhere rows event.key key _ far
 
 -- Those of which something was reported are woken, and none is late.
 pub wakes_reported : (events : List SocketEvent) (start old : Table) → start ≡ old → AreBounded start.due start.deadlines →

@@ -37,10 +37,11 @@ abbrev pub KeepsBeside : {P : Type 0} → Table → SystemCall P → Table → T
 KeepsBeside old (Polls may_block woken orders) new = Unit {0}
 KeepsBeside old (Accepts place came) new = KeepsReportsOf (λ key. control_key old ≤ key) old new
 KeepsBeside old (Connects place Failed) new = KeepsReportsOf (IsFixedRow old) old new
-KeepsBeside old (Retires place ports end) new = KeepsReportsOf (IsFixedRow old) old new
+KeepsBeside old (Retires place ports end) new = place < length old.deadlines → KeepsReportsOf (IsFixedRow old) old new
 KeepsBeside old (Connects place (Ready ports)) new = KeepsReportsOf (λ key. listener_key old ≤ key) old new
 KeepsBeside old (Connects place Pending) new = KeepsReportsOf (λ key. listener_key old ≤ key) old new
-KeepsBeside old (BeginsTurn place before after) new = KeepsReportsOf (λ key. listener_key old ≤ key) old new
+KeepsBeside old (BeginsTurn place before after) new =
+    place < length old.deadlines → KeepsReportsOf (λ key. listener_key old ≤ key) old new
 KeepsBeside old (Rests place ports rests) new = new.rows ≡ old.rows
 KeepsBeside old (Shows ports status) new = new ≡ old
 KeepsBeside old (Notifies notice) new = new ≡ old

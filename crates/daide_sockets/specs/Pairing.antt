@@ -5,9 +5,9 @@ use Rattle.std.specs.declared.net.socket_addr.SocketAddr.{SocketAddr}
 use Rattle.daide_io.specs.Network.{NetworkCall, BeginsConnect, Follows}
 use Rattle.daide_io.specs.System.{SystemCall, Polls, Shows, Accepts, Connects, BeginsTurn, Rests, Retires, Notifies}
 use Rattle.daide_io.specs.declared.system.Connect.TheVariants.{Ready, Failed, Pending}
-use Rattle.daide_buffered_io.specs.Buffers.{Buffer}
+use Rattle.daide_buffered_io.specs.Buffers.{Buffer, with_stream}
 use Rattle.daide_buffered_io.specs.declared.readiness.Readiness.{Readiness}
-use Rattle.daide_io.specs.Streams.{StreamCall}
+use Rattle.daide_io.specs.Streams.{StreamCall, IsSameStream}
 use Rattle.std.specs.declared.time.Instant.{Instant}
 use Rattle.daide_sockets.specs.Times.{IsAfter}
 use Rattle.daide_sockets.specs.Lingering.{ClosingStream, ClosingList, IsClosingBound, begins_closing, WritesOut, ClosingsGoOn}
@@ -129,16 +129,20 @@ abbrev pub with_room : {S : Type 0} → ClosingList S → ClosingList S
 with_room closing = if nat_lt (length closing.streams) 256 then closing
     else record closing { streams = remove closing.streams 0; next = closing.next - 1; pass_end = closing.pass_end - 1 }
 
--- One more stream closes, as the last, after the pass, at this reading of the clock, from which its bound is counted. Its
--- buffered bytes stay buffered, except for those that it took.
+-- One more stream closes, as the last, after the pass, at this reading of the clock, from which its bound is counted. It is
+-- followed under another key, which leaves its bytes and its trace as they are. Its buffered bytes stay buffered, except for
+-- those that it took.
 pub record ClosesAt {S : Type 0} (to_give taken : S → Option (List ℕ)) (calls : S → Option (List StreamCall))
     (reading : Option Instant) (old : ClosingList S) (stream : Buffer S) (new : ClosingList S) : Type 0 where
   pub key : ℕ
   pub known : Readiness
+  pub moved : S
+  pub is_same : IsSameStream to_give taken calls stream.stream moved
   pub bound : Option Instant
   pub bounded : IsClosingBound reading old.stall_time bound
   pub last : ClosingStream S
-  pub writes : WritesOut to_give taken calls reading (begins_closing old.stall_time bound key known stream) last
+  pub writes : WritesOut to_give taken calls reading
+      (begins_closing old.stall_time bound key known (with_stream stream moved)) last
   pub now : new ≡ record (with_room old) { streams = (with_room old).streams ++ last ∷ [] }
 
 -- the same at some reading

@@ -8,8 +8,8 @@ ghost use Rattle.std.specs.Prelude.{◌≡◌, ◌⊎◌, ℕ, ◌+◌, ◌<◌,
 ghost use Rattle.std.specs.Prelude.{IfOk};
 ghost use Rattle.daide_io.specs.declared.ports.Pull.{Pull};
 ghost use Rattle.daide_io.specs.Ports.{AppendsTo};
-ghost use Rattle.daide_io.specs.Streams.{StreamCall, WritingEnded};
-ghost use Rattle.daide_buffered_io.specs.Buffers.{Passes, ReadsNothing, WritesNothing};
+ghost use Rattle.daide_io.specs.Streams.{IsSameStream, StreamCall, WritingEnded};
+ghost use Rattle.daide_buffered_io.specs.Buffers.{Passes, ReadsNothing, WritesNothing, with_stream};
 ghost use Rattle.daide_sockets.specs.Accepting.{FollowsAtMostOnce};
 ghost use Rattle.daide_sockets.specs.Beside.{may_close_on, closing_due, stage_due, closings_watched};
 ghost use Rattle.daide_sockets.specs.Finishing.{FinishesAll, WaitsOnce};
@@ -19,7 +19,7 @@ ghost use Rattle.daide_sockets.specs.Lingering.{Discards, is_released, LingersOn
 ghost use Rattle.daide_sockets.specs.Lingering.{in_pass, LooksAround, GoOnFor};
 ghost use Rattle.daide_sockets.specs.Pairing.{ClosesAt, ClosesBothAt, with_room};
 ghost use Rattle.daide_sockets.specs.Rows.{AreRowsOf, KeepsClosingRows, closing_keys};
-ghost use Rattle.daide_sockets.specs.Table.{freed, report_at, watching, without_report, without_reports};
+ghost use Rattle.daide_sockets.specs.Table.{IsFull, TakesRow, freed, report_at, watching, without_report, without_reports};
 
 use crate::poller::Poller;
 use crate::ports::SocketPorts;
@@ -54,6 +54,25 @@ fn closing_bound(now: Option<Instant>, stall_time: Option<Duration>) -> Option<I
         None => None,
         Some(time) => after(after(now, time), Duration::from_secs(SECONDS)),
     }
+}
+
+/// Has a socket followed under a row of closing sockets, of which there is one for each.
+fn moved<'w, S: Duplex + Drop, N: Network<Connection = S>>(
+    poller: &mut Poller<N>,
+    socket: Socket<'w, S>,
+) -> Socket<'w, S>
+    ensures stream { result.stream ≡ with_stream socket.entry.stream result.stream.stream }
+    ensures same { IsSameStream S.to_give S.taken S.calls socket.entry.stream.stream result.stream.stream }
+    ensures calls { FollowsAtMostOnce N.transition socket.entry.stream.stream poller.old.network poller.new.network }
+    ensures row { TakesRow poller.old.table result.key poller.new.table
+        ⊎ (IsFull poller.old.table × (poller.new.table ≡ poller.old.table)) }
+{
+    let mut socket = socket;
+    let Some(key) = poller.table.take_closing_row() else {
+        return socket;
+    };
+    socket.move_to(poller, key);
+    socket
 }
 
 /// A closing socket. Its writing is over once no buffered byte may still be written.
@@ -227,11 +246,11 @@ impl<'w, S: Duplex + Drop> LingeringClose<'w, S> {
         ensures key { self.new.key ≡ self.old.key }
     {
         self.take_report(table);
-        let stays = self.lingers(now);
-        if !stays {
-            table.release(self.socket.key);
+        if self.lingers(now) {
+            return true;
         }
-        stays
+        table.release(self.socket.key);
+        false
     }
 
     /// Returns whether a step may do something at once.
@@ -449,11 +468,7 @@ impl<'w, S: Duplex + Drop> Closings<'w, S> {
     {
         let now = poller.table.now();
         self.make_room(&mut poller.table);
-        let mut socket = socket;
-        // There is a row for each closing socket.
-        if let Some(key) = poller.table.take_closing_row() {
-            socket.move_to(poller, key);
-        }
+        let socket = moved(poller, socket);
         let mut closing = LingeringClose::new(socket, self.stall_time, now);
         closing.end_writing(now);
         self.sockets.push(closing);
