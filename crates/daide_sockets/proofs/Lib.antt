@@ -5,6 +5,9 @@ mod TableLemmas
 pub mod KeptRowLemmas
 mod UnpolledLemmas
 mod PollLemmas
+mod RunPollLemmas
+mod AtRestLemmas
+mod ControlLemmas
 pub mod RowLemmas
 pub mod InTimeLemmas
 mod BesideLemmas

@@ -83,3 +83,54 @@ module _ {S : Type 0} where
       let sum = sum_set number old place None (Some arrival) (free_is old place free) in
       let whole : sum_over number new ≡ sum_over number (slice_set old place (Some arrival)) = ap (sum_over number) h in
       omega (arith, sum, none, whole)
+
+  -- ---- what is put back
+
+  set_same : (arrivals : List (Option (Arriving S))) (place : ℕ) (arrival : Option (Arriving S)) →
+      slice_get arrivals place ≡ Some arrival → slice_set arrivals place arrival ≡ arrivals
+  set_same [] place arrival h = refl
+  set_same (first ∷ arrivals) zero arrival h =
+      let e : first ≡ arrival = cc in
+      ap (λ (a : Option (Arriving S)). a ∷ arrivals) (sym e)
+  set_same (first ∷ arrivals) (suc place) arrival h =
+      ap (λ (l : List (Option (Arriving S))). first ∷ l) (set_same arrivals place arrival h)
+
+  set_twice : (arrivals : List (Option (Arriving S))) (place : ℕ) (one other : Option (Arriving S)) →
+      slice_set (slice_set arrivals place one) place other ≡ slice_set arrivals place other
+  set_twice [] place one other = refl
+  set_twice (first ∷ arrivals) zero one other = refl
+  set_twice (first ∷ arrivals) (suc place) one other =
+      ap (λ (l : List (Option (Arriving S))). first ∷ l) (set_twice arrivals place one other)
+
+  -- nothing changes
+  pub unchanged_pending : (arrivals : List (Option (Arriving S))) (place : ℕ) →
+      StaysPendingIf (arrival_at arrivals place) arrivals place arrivals
+  unchanged_pending arrivals place = by (slice_get arrivals place) refl
+    where
+      by : (found : Option (Option (Arriving S))) → slice_get arrivals place ≡ found →
+          StaysPendingIf (arrival_in found) arrivals place arrivals
+      by None e = refl
+      by (Some None) e = refl
+      by (Some (Some arrival)) e = (arrival, same_pending arrival, sym (set_same arrivals place (Some arrival) e))
+
+  -- a bot is taken out, looked at and put back
+  pub put_back : (old mid new : List (Option (Arriving S))) (place : ℕ) (arrival later : Arriving S) →
+      TakesOut old place arrival mid → StaysPending arrival later → new ≡ slice_set mid place (Some later) →
+      StaysPendingIf (arrival_at old place) old place new
+  put_back old mid new place arrival later out stays e =
+      subst (λ (found : Option (Option (Arriving S))). StaysPendingIf (arrival_in found) old place new) (sym out.there)
+      (later, stays, e ∙ ap (λ (l : List (Option (Arriving S))). slice_set l place (Some later)) out.free ∙ set_twice old place None (Some later))
+
+  get_set : (arrivals : List (Option (Arriving S))) (place : ℕ) (before after : Option (Arriving S)) →
+      slice_get arrivals place ≡ Some before → slice_get (slice_set arrivals place after) place ≡ Some after
+  get_set [] place before after h = absurd (cc)
+  get_set (first ∷ arrivals) zero before after h = refl
+  get_set (first ∷ arrivals) (suc place) before after h = get_set arrivals place before after h
+
+  -- the bot that is put back is there
+  pub there_again : (old mid new : List (Option (Arriving S))) (place : ℕ) (arrival later : Arriving S) →
+      TakesOut old place arrival mid → new ≡ slice_set mid place (Some later) → arrival_at new place ≡ Some later
+  there_again old mid new place arrival later out e =
+      ap (λ (l : List (Option (Arriving S))). arrival_at l place) (e
+      ∙ ap (λ (l : List (Option (Arriving S))). slice_set l place (Some later)) out.free ∙ set_twice old place None (Some later))
+      ∙ ap arrival_in (get_set old place (Some arrival) (Some later) out.there)

@@ -1,7 +1,7 @@
 -- Calls of the network, none of which polls.
-use Rattle.std.proofs.Common.{◌≡◌, ℕ, zero, suc, ◌+◌, Bool, true, false, List, [], ◌∷◌, ◌++◌, refl, sym, subst}
+use Rattle.std.proofs.Common.{◌≡◌, ℕ, zero, suc, ◌+◌, Bool, true, false, List, [], ◌∷◌, ◌++◌, refl, sym, subst, arith}
 use Rattle.std.proofs.Common.{◌⊎◌, inl, inr, Result, Ok, Err}
-use Rattle.std.specs.Prelude.{All}
+use Rattle.std.specs.Prelude.{◌<◌, nat_lt, All}
 use Rattle.std.proofs.lemmas.List.Elements.{All-nil, All-cons, All-append}
 use Rattle.std.specs.declared.io.Error.{Error}
 use Rattle.std.specs.declared.net.socket_addr.SocketAddr.{SocketAddr}
@@ -65,3 +65,18 @@ module _ {N C : Type 0} (transition : N → NetworkCall C → N → Type 0) wher
       TriesOn transition addresses before after old new → GoesUnpolled transition old new
   tries_unpolled addresses before after old new h =
       both old h.mid new (asks_unpolled old h.mid h.asks) (connects_unpolled addresses before h.count h.mid new h.connects)
+
+  -- a listener is asked: an accept is made exactly if there is room and one is due
+  pub asked_unpolled : (place places came most : ℕ) (free due : Bool) (old new : N) →
+      (place < places → free ≡ true → came < most → due ≡ true → GoesUnpolled transition old new) →
+      ((place < places → free ≡ true → came < most → due ≡ false) → new ≡ old) → GoesUnpolled transition old new
+  asked_unpolled place places came most true true old new made not_made =
+      by (nat_lt place places) (nat_lt came most) refl refl
+    where
+      by : (has few : Bool) → nat_lt place places ≡ has → nat_lt came most ≡ few → GoesUnpolled transition old new
+      by true true e f = made (grind (arith, e)) refl (grind (arith, f)) refl
+      by false few e f = none old new (not_made (λ lt free room. absurd (let no = e in grind (arith, lt, no))))
+      by true false e f = none old new (not_made (λ lt free room. absurd (let no = f in grind (arith, room, no))))
+  asked_unpolled place places came most true false old new made not_made = none old new (not_made (λ lt free room. refl))
+  asked_unpolled place places came most false due old new made not_made =
+      none old new (not_made (λ lt free room. absurd (cc)))

@@ -382,12 +382,15 @@ impl<'w, N: Network, E: Write + Drop> Sockets<'w, N, E> {
         self.poller.table.unwatch();
     }
 
-    /// Wakes each place, since an operator stops all sessions.
-    #[inline(never)]
-    fn wake_all<A: Allocator>(&self, ready: &mut ReadyQueue<A>)
+    /// Wakes each place once an operator stops all sessions, which was not so before.
+    fn wake_stopped<A: Allocator>(&self, was_stopped: bool, ready: &mut ReadyQueue<A>)
         ensures { (woken : List ℕ) × (ready.new ≡ woken_all woken ready.old)
-            × ((place : ℕ) → place < length self.now.poller.table.deadlines → is_among place woken ≡ true) }
+            × (self.now.control.stops_now ≡ true → was_stopped ≡ false → (place : ℕ) →
+            place < length self.now.poller.table.deadlines → is_among place woken ≡ true) }
     {
+        if was_stopped || !self.control.stops_now() {
+            return;
+        }
         for place in 0..self.poller.table.places() {
             ready.wake(place);
         }
@@ -434,9 +437,7 @@ impl<'w, N: Network, E: Write + Drop> System<SocketPorts<'w, N::Connection>> for
         self.tidy();
         let was_stopped = self.control.stops_now();
         let orders = self.take_orders();
-        if self.control.stops_now() && !was_stopped {
-            self.wake_all(ready);
-        }
+        self.wake_stopped(was_stopped, ready);
         self.poller.table.is_bounded();
         orders
     }

@@ -2,17 +2,17 @@
 
 ghost use Rattle.std.specs.Duration.{as_nanos};
 ghost use Rattle.std.specs.Net.Socket.{socket_ip};
-ghost use Rattle.std.specs.Prelude.{◌≡◌, ℕ, ◌⊎◌, ◌<◌, ◌&&◌, nat_lt, IfSome, IfNone, None, Some, true, false, length, slice_set};
+ghost use Rattle.std.specs.Prelude.{◌≡◌, ℕ, ◌<◌, ◌≤◌, ◌&&◌, nat_lt, IfSome, IfNone, None, Some, true, false, length, slice_set};
 ghost use Rattle.daide_io.specs.System.{Accepts, Connects};
-ghost use Rattle.daide_frame.specs.declared.side.Side.TheVariants.{Bot, Server};
+ghost use Rattle.daide_frame.specs.declared.side.Side.TheVariants.{Server};
 ghost use Rattle.daide_settings.specs.Ranges.{host_of, may_come};
 ghost use Rattle.daide_sockets.specs.Accepting.{is_bot_due, AcceptsThenConnects, BringsNoBot, IsUnreached, GivesConnection};
-ghost use Rattle.daide_sockets.specs.KeptRows.{ChangesRows};
+ghost use Rattle.daide_sockets.specs.KeptRows.{ChangesRows, IsAcceptRow};
 ghost use Rattle.daide_sockets.specs.Pairing.{Arriving, ClosesAt, Comes, ComesWith, TakesOut, arrival_at, is_free_place};
 ghost use Rattle.daide_sockets.specs.Present.{HasRoomForOne, IsAllowed, IsPresentWith, position_of, without_at};
 ghost use Rattle.daide_sockets.specs.Rows.{KeepsClosingRows, closing_keys};
 ghost use Rattle.daide_sockets.specs.Scheduling.{RunEvolves, run_state};
-ghost use Rattle.daide_sockets.specs.Table.{forgotten, key_of, listener_key};
+ghost use Rattle.daide_sockets.specs.Table.{forgotten, key_of};
 ghost use Rattle.daide_sockets.specs.Wakeups.{GoesUnpolled};
 ghost use Rattle.daide_sockets.specs.declared.ports.SocketPorts.{SocketPorts as PortsOf};
 
@@ -82,11 +82,13 @@ impl<'w, N: Network, E: Write + Drop> Sockets<'w, N, E> {
     /// Takes out the bot at a place whose connect is under way, if there is one.
     fn take_arrival(&mut self, place: usize) -> Option<PendingConnection<'w, N::Connection>>
         ensures some { IfSome result (λ arrival. TakesOut self.old.arrivals.items place arrival self.new.arrivals.items) }
-        ensures none { IfNone result ((arrival_at self.old.arrivals.items place ≡ None)
-            × (self.new.arrivals.items ≡ self.old.arrivals.items)) }
+        ensures rows { IfSome result (λ _. (place < length self.old.poller.table.deadlines)
+            × (key_of place Server ≤ usize.MAX)) }
+        ensures none { IfNone result ((place < length self.old.poller.table.deadlines →
+            arrival_at self.old.arrivals.items place ≡ None) × (self.new.arrivals.items ≡ self.old.arrivals.items)) }
         ensures same { self.new ≡ record self.old { arrivals = self.new.arrivals } }
     {
-        if place >= self.arrivals.len() {
+        if place >= self.poller.table.places() || place >= self.arrivals.len() {
             return None;
         }
         self.arrivals[place].take()
@@ -104,8 +106,10 @@ impl<'w, N: Network, E: Write + Drop> Sockets<'w, N, E> {
 
     /// Returns whether a bot may have this place: it has rows, and no connect is under way there.
     fn has_place(&self, place: usize) -> bool
-        ensures { result ≡ (nat_lt place (length self.now.poller.table.deadlines)
+        ensures free { result ≡ (nat_lt place (length self.now.poller.table.deadlines)
             && is_free_place self.now.arrivals.items place) }
+        ensures rows { result ≡ true → (place < length self.now.poller.table.deadlines)
+            × (key_of place Server ≤ usize.MAX) }
     {
         place < self.poller.table.places()
             && place < self.arrivals.len()
@@ -218,8 +222,7 @@ impl<'w, N: Network, E: Write + Drop> Sockets<'w, N, E> {
         ensures present { IfSome result (λ began. IsPresentWith self.old.poller.table.reading self.old.present began
             self.new.present) }
         ensures absent { IfNone result (self.new.present ≡ self.old.present) }
-        ensures table { ChangesRows (λ key. (key ≡ listener_key self.old.poller.table)
-            ⊎ ((key ≡ key_of place Bot) ⊎ (key ≡ key_of place Server))) self.old.poller.table self.new.poller.table }
+        ensures table { ChangesRows (IsAcceptRow self.old.poller.table place) self.old.poller.table self.new.poller.table }
         ensures same { self.new ≡ record self.old {
           poller = self.new.poller;
           acceptor = self.new.acceptor;
