@@ -1,4 +1,4 @@
-use Rattle.std.proofs.Common.{Option, ap, refl, subst, sym, ◌∙◌}
+use Rattle.std.proofs.Common.{◌<◌, Option, length, ap, refl, subst, sym, ◌∙◌}
 use Rattle.std.specs.declared.time.Duration.{Duration}
 use Rattle.daide_sockets.specs.Lingering.{ClosingStream, ClosingList, IsClosingBound, WritesOut, begins_closing}
 use Rattle.daide_buffered_io.specs.Buffers.{Buffer}
@@ -28,7 +28,7 @@ returns-clause-closes g c =
           (c.new-closing.ensures.begins ∙ ap (λ (t : Option Duration).
           begins_closing t bound c.moved-socket.result.key c.moved-socket.result.readiness c.moved-socket.result.stream) time
           ∙ ap (λ (s : Buffer g.row.S.Denot).
-          begins_closing _ bound c.moved-socket.result.key c.moved-socket.result.readiness s) c.moved-socket.ensures.stream)
+          begins_closing c.args.self.now.stall_time bound c.moved-socket.result.key c.moved-socket.result.readiness s) c.moved-socket.ensures.stream)
           c.end_writing.ensures.writes;
       now = appended g.S.Duplex.to_give g.S.Duplex.taken g.S.Duplex.calls c.now-now.result _ _ last _ room c.push.ensures;
     })
@@ -39,7 +39,8 @@ returns-clause-rows g c =
     (keeps_both _ _ _ _ _ _
     (subst (λ (l : ClosingList g.row.S.Denot). KeepsClosingRows c.args.poller.now.table (closing_keys c.args.self.now.streams)
     c.make_room.new.table (closing_keys l.streams)) (sym c.self.view_is) c.make_room.ensures.rows)
-    (one_begins _ _ _ c.end_writing.new.self c.moved-socket.result.key 256
+    (one_begins _ _ c.self.inside.sockets c.end_writing.new.self c.moved-socket.result.key 256
     (c.end_writing.ensures.writes.key ∙ c.end_writing.ensures.writes.tries.key
-    ∙ ap (λ (o : ClosingStream g.row.S.Denot). o.key) c.new-closing.ensures.begins) refl c.make_room.ensures.room
+    ∙ ap (λ (o : ClosingStream g.row.S.Denot). o.key) c.new-closing.ensures.begins) refl
+    (subst (λ (l : ClosingList g.row.S.Denot). length l.streams < 256) (sym c.self.view_is) c.make_room.ensures.room)
     c.moved-socket.ensures.row))
