@@ -7,7 +7,7 @@ use Rattle.std.specs.Time.{instant_nanos, FitsClock}
 use Rattle.std.specs.declared.time.Duration.{Duration}
 use Rattle.std.specs.declared.time.Instant.{Instant}
 use Rattle.std.proofs.lemmas.List.Elements.{All-nil, All-cons, All-head, All-tail, All-same, All-append, All-push, All-weaker}
-use Rattle.daide_buffered_io.specs.Buffers.{Buffer}
+use Rattle.daide_buffered_io.specs.Buffers.{Buffer, with_stream}
 use Rattle.daide_buffered_io.specs.Calls.{is_last_piece}
 use Rattle.daide_io.specs.Streams.{StreamCall}
 use Rattle.daide_io.specs.System.{SystemCall, Polls, Shows, Accepts, Connects, BeginsTurn, Rests, Retires, Notifies, TransitsBy}
@@ -492,12 +492,12 @@ module _ {S : Type 0} (to_give taken : S → Option (List ℕ)) (calls : S → O
             start = reading;
             key = at.key;
             known = at.known;
-            stream = stream;
+            stream = with_stream stream at.moved;
             first = at.last;
             bound = at.bound;
             bounded = subst (λ (t : Option Duration). IsClosingBound reading t at.bound) all.1 at.bounded;
             begins = subst (λ (t : Option Duration).
-                WritesOut to_give taken calls reading (begins_closing t at.bound at.key at.known stream) at.last) all.1 at.writes;
+                WritesOut to_give taken calls reading (begins_closing t at.bound at.key at.known (with_stream stream at.moved)) at.last) all.1 at.writes;
             readings = [];
             looks = refl;
           },

@@ -87,15 +87,21 @@ module _ {S : Type 0} (to_give taken : S → Option (List ℕ)) (calls : S → O
       PlacesAdvance to_give taken calls run one (p ∷ q ∷ r ∷ s ∷ []) (p' ∷ q' ∷ r' ∷ s' ∷ [])
   four_advance one two three four p q r s p' q' r' s' {a} {b} {c} {d} is_a is_b is_c is_d h k l first second third fourth = (
     at one a 0 p p' refl refl is_a first,
-    at two b 1 q q' (reading_two) (keeps_report (λ row. row ≡ a) one two b (λ e. omega (arith, e, is_a, is_b)) h) is_b second,
-    at three c 2 r r' (same_reading (λ row. row ≡ b) two three k ∙ reading_two)
-        (keeps_report (λ row. row ≡ b) two three c (λ e. omega (arith, e, is_b, is_c)) k
-        ∙ keeps_report (λ row. row ≡ a) one two c (λ e. omega (arith, e, is_a, is_c)) h) is_c third,
-    at four d 3 s s' (same_reading (λ row. row ≡ c) three four l ∙ same_reading (λ row. row ≡ b) two three k ∙ reading_two)
-        (keeps_report (λ row. row ≡ c) three four d (λ e. omega (arith, e, is_c, is_d)) l
-        ∙ keeps_report (λ row. row ≡ b) two three d (λ e. omega (arith, e, is_b, is_d)) k
-        ∙ keeps_report (λ row. row ≡ a) one two d (λ e. omega (arith, e, is_a, is_d)) h) is_d fourth,
-    tt,
+    (
+      at two b 1 q q' (reading_two) (keeps_report (λ row. row ≡ a) one two b (λ e. absurd (omega (arith, e, is_a, is_b))) h) is_b second,
+      (
+        at three c 2 r r' (same_reading (λ row. row ≡ b) two three k ∙ reading_two)
+            (keeps_report (λ row. row ≡ b) two three c (λ e. absurd (omega (arith, e, is_b, is_c))) k
+            ∙ keeps_report (λ row. row ≡ a) one two c (λ e. absurd (omega (arith, e, is_a, is_c))) h) is_c third,
+        (
+          at four d 3 s s' (same_reading (λ row. row ≡ c) three four l ∙ same_reading (λ row. row ≡ b) two three k ∙ reading_two)
+              (keeps_report (λ row. row ≡ c) three four d (λ e. absurd (omega (arith, e, is_c, is_d))) l
+              ∙ keeps_report (λ row. row ≡ b) two three d (λ e. absurd (omega (arith, e, is_b, is_d))) k
+              ∙ keeps_report (λ row. row ≡ a) one two d (λ e. absurd (omega (arith, e, is_a, is_d))) h) is_d fourth,
+          tt,
+        ),
+      ),
+    ),
   )
     where
       reading_two : two.reading ≡ one.reading

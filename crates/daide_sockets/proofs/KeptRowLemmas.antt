@@ -165,12 +165,15 @@ first_rows old new streams e none rows =
 
 -- ---- other places
 
+set_other : {X : Type 0} (xs : List X) (at key : ℕ) (x : X) → (at ≡ key → ⊥) → slice_get (slice_set xs at x) key ≡ slice_get xs key
+set_other [] at key x ne = refl
+set_other (first ∷ xs) zero zero x ne = absurd (ne refl)
+set_other (first ∷ xs) zero (suc key) x ne = refl
+set_other (first ∷ xs) (suc at) zero x ne = refl
+set_other (first ∷ xs) (suc at) (suc key) x ne = set_other xs at key x (λ e. ne (ap suc e))
+
 get_other : {X : Type 0} (xs : List X) (at key : ℕ) (x : X) → (at == key) ≡ false → slice_get (slice_set xs at x) key ≡ slice_get xs key
-get_other [] at key x e = refl
-get_other (first ∷ xs) zero zero x e = absurd (cc)
-get_other (first ∷ xs) zero (suc key) x e = refl
-get_other (first ∷ xs) (suc at) zero x e = refl
-get_other (first ∷ xs) (suc at) (suc key) x e = get_other xs at key x e
+get_other xs at key x e = set_other xs at key x (apart at key e)
 
 -- the rows and the deadlines of all places but one are the same
 pub keeps_others : (old new : Table) (place : ℕ) →
@@ -378,7 +381,7 @@ turn_beside old new place e lt key le =
 
 module _ (old new : Table) (place : ℕ) (given left : List ℕ)
     (h : KeepsClosingRows (without_reports (forgotten old place) place) given new left) (rows : AreRowsOf old given) where
-  quiet : Table
+  abbrev quiet : Table
   quiet = without_reports (forgotten old place) place
 
   quiet_holds : AreRowsOf quiet given

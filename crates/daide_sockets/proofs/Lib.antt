@@ -8,6 +8,7 @@ mod PollLemmas
 mod RunPollLemmas
 mod AtRestLemmas
 mod ControlLemmas
+mod ConnectLemmas
 pub mod RowLemmas
 pub mod InTimeLemmas
 mod BesideLemmas

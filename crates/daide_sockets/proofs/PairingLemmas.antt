@@ -2,7 +2,8 @@
 use Rattle.std.proofs.Common.{◌≡◌, ℕ, zero, suc, ◌+◌, Bool, true, false, List, [], ◌∷◌, refl, sym, ap, ◌∙◌, arith}
 use Rattle.std.proofs.Common.{◌⊎◌, Option, Some, None, inl, inr, subst}
 use Rattle.std.specs.Prelude.{slice_get, slice_set}
-use Rattle.daide_sockets.specs.Pairing.{Arriving, IsFreshConnect, StaysPending, StaysPendingIf, TakesOut, arrival_at, arrival_in}
+use Rattle.daide_sockets.specs.Lingering.{ClosingList}
+use Rattle.daide_sockets.specs.Pairing.{Arriving, RunSockets, IsFreshConnect, StaysPending, StaysPendingIf, TakesOut, arrival_at, arrival_in}
 use Rattle.daide_sockets.specs.Pairing.{is_free_in, is_free_place, sum_over}
 
 module _ {S : Type 0} where
@@ -134,3 +135,13 @@ module _ {S : Type 0} where
       ap (λ (l : List (Option (Arriving S))). arrival_at l place) (e
       ∙ ap (λ (l : List (Option (Arriving S))). slice_set l place (Some later)) out.free ∙ set_twice old place None (Some later))
       ∙ ap arrival_in (get_set old place (Some arrival) (Some later) out.there)
+
+  abbrev sockets_of : ℕ → List (Option (Arriving S)) → ClosingList S → RunSockets S
+  sockets_of came arrivals closing = record { came = came; arrivals = arrivals; closing = closing }
+
+  -- the same numbers, places and closing streams
+  pub same_sockets : (came other : ℕ) (arrivals others : List (Option (Arriving S))) (closing : ClosingList S) → came ≡ other →
+      arrivals ≡ others → sockets_of came arrivals closing ≡ sockets_of other others closing
+  same_sockets came other arrivals others closing e f =
+      ap (λ (n : ℕ). sockets_of n arrivals closing) e
+      ∙ ap (λ (l : List (Option (Arriving S))). sockets_of other l closing) f

@@ -65,45 +65,40 @@ fn idle_time_of(seconds: u32) -> Option<Duration>
 
 /// The sockets of a run: its system. What each call does to them is one relation (`transition`, `RunEvolves`).
 /// `Transits` says what it does to the bots and to the sockets that close. An accept that returned true added one bot,
-/// with the next number and the connect that was begun for it. Ports that are ready have the two connections of one
-/// such bot: its own, and the one made for it. A bot whose server can't be reached begins to close. So do both
-/// connections of a session that is retired, with what is held for them. A pending connect keeps its bot, and may be
-/// begun again. It is given up only after a stop of all sessions, after its deadline, or once each address of the
-/// server was tried (`connected`: `unreached`). Except `begin_round`, no other call changes them.
+/// with the next number, at its place, which was free, and with the connect that was begun for it. Ports that are ready have
+/// the two connections of the bot at their place: its own, and the one made for it. A bot whose server can't be reached begins
+/// to close. So do both connections of a session that is retired, with what is held for them. A pending connect keeps its bot,
+/// and may be begun again. It is given up only after a stop of all sessions, after its deadline, or once each address of the
+/// server was tried (`connected`: `unreached`). Except `poll`, no other call changes them.
 ///
-/// In `begin_round` the sockets that close make progress, by the table's reading of the clock (`tidy`: `closing`): all
-/// of them, or eight if there are more (`ClosingsGoOn`). They keep their order. If a turn begins, what was held for too
-/// long is written to that session's own sockets, and neither is read. There is news for a session exactly if something
-/// may be done at once for it, or its nearest deadline is past (`has_news`: `news`). If there is none, the next wait
-/// watches it (`looks`, `rests`: `after_question`). A wait watches the sessions that it was to watch (`Wakes`), the
-/// listener, each connect and each closing socket (`wait`: `polls`). It polls once, for the time until the nearest
-/// deadline, unless something is pending or may be done at once. Beside that, the network is polled for no time once 32
-/// turns began since the last poll: before a session is asked for news (`has_news`: `looks`, `begin_turn`: `counted`),
-/// and when a round begins. With room for one more, exactly one accept is made if the listener is ready (`accept_next`:
-/// `made`), and no other call but connects for its bot. If it brings no bot, it failed, or its bot may not come, or no
-/// row is left, or the system refused to follow its connection (`kept`). From then on the wait of the round is for bots
-/// too (`awaited`), so it does not block while an accept is due. A bot is accepted only if it may come by the settings,
-/// beside the hosts of those that are there (`allowed`). A bot that comes is added to those, and the end of its session
-/// removes it (`retire` and `let_go`: `hosts`).
+/// In `poll` the sockets that close make progress, by the table's reading of the clock (`tidy`: `closing`): all of them, or
+/// eight if there are more (`ClosingsGoOn`). They keep their order. If a turn begins, what was held for too long is written to
+/// that session's own sockets, and neither is read. A session rests exactly if nothing may be done at once for it, and then
+/// until its nearest deadline (`Wakes`). A poll names each place of which something was reported, and each whose deadline is
+/// past. It polls once, and watches the listener and each closing socket (`PollsForRun`) beside the places and the control
+/// socket. It blocks only if it may, and if nothing of these has work, until the nearest deadline. What it reported of a place
+/// stays in its rows until the session takes it. With a free place, exactly one accept is made if the listener is ready
+/// (`accept_next`: `made`), and no other call but connects for its bot. If it brings no bot, it failed, or its bot may not come,
+/// or the system refused to follow its connection (`kept`). From then on the next poll is for bots too (`awaited`), so it does
+/// not block while an accept is due. A bot is accepted only if it may come by the settings, beside the hosts of those that are
+/// there (`allowed`). A bot that comes is added to those, and the end of its session removes it (`retire` and `let_go`: `hosts`).
 ///
-/// Each call says which rows of the table it takes and frees, by the keys of the sockets that have one (`HandsAlong`).
-/// An accepted bot gets a row, and so does its connect. Ports that are ready have these two, and those of ports that
-/// are retired are the closing sockets' then. A socket that is closed leaves its row free, and so does the listener. A
-/// run begins with those of its listeners (`new`: `rows`). So over a run no row leaks (`no_row_leaks`).
+/// The rows of a place are fixed by its number, and those of the listeners and of control connections by theirs. Only a closing
+/// socket takes a row, and the taken rows are always exactly those of the closing sockets (`HoldsRows`). A run begins with none
+/// (`new`: `rows`).
 ///
 /// No call changes the limits, the ranges, the timeouts or the server of the run (`same`). The timeouts are those of
 /// the settings (`new`: `idle_time`, `stall_time`). The ports of a connect begin with them, at the table's reading of
-/// the clock (`Schedules`).
+/// the clock (`Schedules`). The place of a pending connect rests until the deadline of the connect.
 ///
-/// At the end of `begin_round` the control socket advances, and the next wait watches it (`take_orders`: `control`,
-/// `watched`). Once a stop is requested, or all bots of the run came, the listener for bots is closed (`closes`,
-/// `all_came`). Once it is requested that sessions end now, a pending connect is given up (`look_at_first`:
-/// `given_up`). Each session has news until its next turn (`has_news`: `news`). That turn stops it, and no later one
-/// (`begin_turn`: `stops`, `once`).
+/// At the end of `poll` the control socket advances, and the next poll watches it (`take_orders`: `control`, `watched`). Once a
+/// stop is requested, or all bots of the run came, the listener for bots is closed (`closes`, `all_came`). Once it is requested
+/// that sessions end now, each place is woken (`wake_stopped`), and a pending connect is given up (`look_at`). The next turn of a
+/// session stops it, and no later one (`begin_turn`: `stops`, `once`).
 ///
-/// Before a wait, a run notes whether it is full and whether accepts pause, and logs what changed (`wait`: `capacity`).
+/// In each poll a run notes whether it is full and whether accepts pause, and logs what changed (`poll`: `capacity`).
 ///
-/// Not said: that a wait ended because something came, and that the port in a row of a status is the connection's: the
+/// Not said: that a poll ended because something came, and that the port in a row of a status is the connection's: the
 /// system returns it (`Network::local_address`). That held bytes are given up only after a failed write, or after
 /// `stall_seconds`, is read from `flush_at` and `give_up_stalled`. `SessionNotice::of_end` and `why_of` give the counts
 /// and the cause in a line of a session's end. Tests and `scripts/recorded` show that `--verbose` writes it.

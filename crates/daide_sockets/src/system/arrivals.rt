@@ -147,6 +147,7 @@ impl<'w, N: Network, E: Write + Drop> Sockets<'w, N, E> {
         let mut arrival = arrival;
         if self.control.stops_now() {
             self.let_go(place, arrival.give_up());
+            self.poller.table.is_bounded();
             return Connect::Failed;
         }
         if arrival.advances(&mut self.poller, self.servers, server_key(place)) {
@@ -164,6 +165,7 @@ impl<'w, N: Network, E: Write + Drop> Sockets<'w, N, E> {
             }
             Err(left) => {
                 self.let_go(place, left);
+                self.poller.table.is_bounded();
                 Connect::Failed
             }
         }

@@ -9,7 +9,7 @@ use Rattle.daide_sockets.proofs.control.Control.accept.Goals as goal
 
 pub accept-requires : goal.accept-requires
 accept-requires g c =
-    connection_row _ _ c.first_free.result (c.first_free.ensures (search rules)) (c.control_connection_key-key.ensures (c.first_free.ensures (search rules)))
+    connection_row c.args.poller.now.table c.control_connection_key-key.result c.first_free.result (c.first_free.ensures (search rules)) (c.control_connection_key-key.ensures (c.first_free.ensures (search rules)))
 
 pub returns-clause-accepts : goal.returns-clause-accepts
 returns-clause-accepts g c =
@@ -30,14 +30,26 @@ returns-clause-accepts g c =
       c.put.ensures,
     )
 
-pub returns-in_default-listener-clause-table : goal.returns-in_default-listener-clause-table
-returns-in_default-listener-clause-table g c = changes_none _ _ _ refl
+pub returns-in_default-clause-table : goal.returns-in_default-clause-table
+returns-in_default-clause-table g c = changes_none _ _ _ refl
 
-pub returns-in_default-listener-clause-calls : goal.returns-in_default-listener-clause-calls
-returns-in_default-listener-clause-calls g c = none g.N.Network.transition _ _ refl
+pub returns-in_default-clause-calls : goal.returns-in_default-clause-calls
+returns-in_default-clause-calls g c = none g.N.Network.transition _ _ refl
 
 pub returns-then-not-has_room-clause-table : goal.returns-then-not-has_room-clause-table
 returns-then-not-has_room-clause-table g c = changes_none _ _ _ refl
 
 pub returns-then-not-has_room-clause-calls : goal.returns-then-not-has_room-clause-calls
 returns-then-not-has_room-clause-calls g c = none g.N.Network.transition _ _ refl
+
+pub returns-in_default-accept-clause-table : goal.returns-in_default-accept-clause-table
+returns-in_default-accept-clause-table g c = c.accept.ensures.table
+
+pub returns-in_default-accept-clause-calls : goal.returns-in_default-accept-clause-calls
+returns-in_default-accept-clause-calls g c = c.accept.ensures.calls
+
+pub returns-clause-table : goal.returns-clause-table
+returns-clause-table g c = c.accept.ensures.table
+
+pub returns-clause-calls : goal.returns-clause-calls
+returns-clause-calls g c = c.accept.ensures.calls
