@@ -1,5 +1,5 @@
 -- The rows of closing sockets: how calls change them, and that there is one for each.
-use Rattle.std.proofs.Common.{◌≡◌, ◌≢◌, ℕ, zero, suc, ◌+◌, ◌*◌, ◌<◌, ◌≤◌, Bool, true, false, List, [], ◌∷◌, ◌++◌, length, get_or}
+use Rattle.std.proofs.Common.{◌≡◌, ◌≢◌, ℕ, zero, suc, ◌+◌, ◌<◌, ◌≤◌, Bool, true, false, List, [], ◌∷◌, ◌++◌, length, get_or}
 use Rattle.std.proofs.Common.{refl, ap, sym, ◌∙◌, subst, arith, inl, inr}
 use Rattle.std.proofs.lemmas.Bool.{ltb-true, ltb-false}
 use Rattle.std.proofs.lemmas.Option.{get_or_from_slice_get, slice_get_read}
@@ -124,8 +124,10 @@ module _ (old new : Table) (given left : List ℕ) (at : ℕ) (row : Row) (is : 
     where
       rows : new.rows ≡ changed old.rows at row
       rows = ap (λ (t : Table). t.rows) is
+
       count : length new.rows ≡ length old.rows
       count = ap length rows ∙ length_set old.rows at row
+
       first : first_closing new ≡ first_closing old
       first = ap (λ (t : Table). first_closing t) is
 
@@ -232,8 +234,11 @@ count_all : (n first : ℕ) (keys : List ℕ) → ((key : ℕ) → first ≤ key
     count_in first n keys ≡ n
 count_all zero first keys h = refl
 count_all (suc n) first keys h =
-    omega (arith, h first (omega arith) (omega arith),
-    count_all n (suc first) keys (λ key le lt. h key (omega (arith, le)) (omega (arith, lt))))
+    omega (
+      arith,
+      h first (omega arith) (omega arith),
+      count_all n (suc first) keys (λ key le lt. h key (omega (arith, le)) (omega (arith, lt))),
+    )
 
 -- fewer streams than there are rows do not have each row
 not_full : (table : Table) (keys : List ℕ) (count : ℕ) → count ≡ 256 → AreRowsOf table keys → length keys < count → IsFull table → ⊥

@@ -1,4 +1,4 @@
-use Rattle.std.proofs.Common.{ℕ, ap, length, arith, ◌∙◌}
+use Rattle.std.proofs.Common.{ap, length, arith, ◌∙◌}
 use Rattle.daide_sockets.specs.Lingering.{ClosingStream}
 use Rattle.daide_sockets.specs.Table.{freed}
 use Rattle.daide_sockets.proofs.RowLemmas.{one_leaves}
