@@ -1,5 +1,5 @@
 -- The time of a poll that may block, against what it watches and the deadlines of the places.
-use Rattle.std.proofs.Common.{◌≡◌, ◌≤◌, ℕ, ◌-◌, Bool, true, false, List, [], ◌∷◌, Option, Some, None, refl, sym, ap, ◌∙◌, subst, arith}
+use Rattle.std.proofs.Common.{◌≡◌, ◌≤◌, ℕ, ◌-◌, Bool, true, false, List, [], ◌∷◌, length, Option, Some, None, refl, sym, ap, ◌∙◌, subst, arith}
 use Rattle.std.specs.Prelude.{◌||◌, ◌&&◌, not, nat_le, if◌then◌else◌, All}
 use Rattle.std.proofs.lemmas.List.Elements.{All-nil, All-cons}
 use Rattle.std.specs.Time.{instant_nanos}
@@ -62,6 +62,11 @@ same_rows table (one ∷ watched) = same_rows (watching table one.0 one.1) watch
 pub same_reading : (table : Table) (watched : List (Bool × Option Instant)) → (watching_all table watched).reading ≡ table.reading
 same_reading table [] = refl
 same_reading table (one ∷ watched) = same_reading (watching table one.0 one.1) watched
+
+pub same_places : (table : Table) (watched : List (Bool × Option Instant)) →
+    length (watching_all table watched).deadlines ≡ length table.deadlines
+same_places table [] = refl
+same_places table (one ∷ watched) = same_places (watching table one.0 one.1) watched
 
 pub same_due : (table : Table) (watched : List (Bool × Option Instant)) → (watching_all table watched).due ≡ table.due
 same_due table [] = refl

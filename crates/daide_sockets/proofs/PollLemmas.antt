@@ -1,5 +1,5 @@
 -- What a poll does to the places.
-use Rattle.std.proofs.Common.{◌≡◌, ℕ, ◌*◌, ◌<◌, Bool, true, false, List, length, refl, ap, sym, ◌∙◌, subst, arith}
+use Rattle.std.proofs.Common.{◌≡◌, ℕ, ◌*◌, ◌<◌, Bool, true, false, List, length, refl, ap, ◌∙◌, arith}
 use Rattle.std.specs.Prelude.{Option}
 use Rattle.std.specs.declared.time.Duration.{Duration}
 use Rattle.std.specs.declared.time.Instant.{Instant}
@@ -49,8 +49,10 @@ polls_places transition time news woken old before new mid after polls same wake
   where
     reading : after.reading ≡ mid.reading
     reading = ap (λ (t : Table). t.reading) wakes.same
+
     count : length mid.deadlines ≡ length before.deadlines
     count = ap (λ (t : Table). length t.deadlines) polls.table
+
     reports : (place : ℕ) → place < length before.deadlines → is_among place woken ≡ false → (side : Side) →
         report_at after (key_of place side) ≡ report_at before (key_of place side)
     reports place lt away side =

@@ -1,14 +1,18 @@
 -- The rows of closing sockets: how calls change them, and that there is one for each.
-use Rattle.std.proofs.Common.{◌≡◌, ◌≢◌, ℕ, zero, suc, ◌+◌, ◌*◌, ◌<◌, ◌≤◌, Bool, true, false, List, [], ◌∷◌, ◌++◌, length, get_or}
+use Rattle.std.proofs.Common.{◌≡◌, ◌≢◌, ℕ, zero, suc, ◌+◌, ◌<◌, ◌≤◌, Bool, true, false, List, [], ◌∷◌, ◌++◌, length, get_or}
 use Rattle.std.proofs.Common.{refl, ap, sym, ◌∙◌, subst, arith, inl, inr}
 use Rattle.std.proofs.lemmas.Bool.{ltb-true, ltb-false}
 use Rattle.std.proofs.lemmas.Option.{get_or_from_slice_get, slice_get_read}
 use Rattle.std.specs.Prelude.{◌⊎◌, nat_lt, remove, slice_get, slice_set, Option, Some}
+use Rattle.std.specs.declared.time.Duration.{Duration}
+use Rattle.daide_io.specs.Network.{NetworkCall}
+use Rattle.daide_io.specs.declared.network.SocketEvent.{SocketEvent}
 use Rattle.daide_io.specs.ReadyQueue.{is_same, occurrences_of, one_if}
 use Rattle.daide_io.proofs.ReadyLemmas.{same_is_one}
 use Rattle.daide_sockets.specs.declared.table.Row.{Row}
 use Rattle.daide_sockets.specs.Lingering.{ClosingStream}
 use Rattle.daide_sockets.specs.Rows.{AreRowsOf, KeepsClosingRows, closing_keys, taken_at}
+use Rattle.daide_sockets.specs.Table.{PollsOnce, with_event, with_events}
 use Rattle.daide_sockets.specs.Table.{Table, IsFull, TakesRow, changed, first_closing, free_row, freed, no_report, row_at, taken_row, without_report}
 use Rattle.daide_sockets.proofs.TableLemmas.{row_elsewhere}
 
@@ -120,8 +124,10 @@ module _ (old new : Table) (given left : List ℕ) (at : ℕ) (row : Row) (is : 
     where
       rows : new.rows ≡ changed old.rows at row
       rows = ap (λ (t : Table). t.rows) is
+
       count : length new.rows ≡ length old.rows
       count = ap length rows ∙ length_set old.rows at row
+
       first : first_closing new ≡ first_closing old
       first = ap (λ (t : Table). first_closing t) is
 
@@ -228,8 +234,11 @@ count_all : (n first : ℕ) (keys : List ℕ) → ((key : ℕ) → first ≤ key
     count_in first n keys ≡ n
 count_all zero first keys h = refl
 count_all (suc n) first keys h =
-    omega (arith, h first (omega arith) (omega arith),
-    count_all n (suc first) keys (λ key le lt. h key (omega (arith, le)) (omega (arith, lt))))
+    omega (
+      arith,
+      h first (omega arith) (omega arith),
+      count_all n (suc first) keys (λ key le lt. h key (omega (arith, le)) (omega (arith, lt))),
+    )
 
 -- fewer streams than there are rows do not have each row
 not_full : (table : Table) (keys : List ℕ) (count : ℕ) → count ≡ 256 → AreRowsOf table keys → length keys < count → IsFull table → ⊥
@@ -318,3 +327,45 @@ module _ {S : Type 0} where
     taken = λ held. absurd (not_full old (closing_keys streams) count most held (omega (arith, length_keys streams, fewer)) full.0);
     others = λ held key lt. ap (λ (t : Table). row_at t.rows key) full.1;
   }
+
+  -- one leaves, of which the report was taken first
+  pub one_gone : (old new : Table) (items was left : List (ClosingStream S)) (at : ℕ) (one : ClosingStream S) → items ≡ was →
+      at < length items → one ≡ get_or items at one → left ≡ remove items at →
+      new ≡ freed (without_report old one.key) one.key → KeepsClosingRows old (closing_keys was) new (closing_keys left)
+  one_gone old new items was left at one view lt value gone is =
+      keeps_both old (without_report old one.key) new (closing_keys was) (closing_keys was) (closing_keys left)
+      (stays_held old (without_report old one.key) (closing_keys was) (closing_keys was) one.key refl
+      (subst (λ (l : List (ClosingStream S)). 0 < occurrences_of one.key (closing_keys l)) view (some_held items at one there)) refl)
+      (one_leaves (without_report old one.key) new items was left at one view lt value gone is)
+    where
+      there : slice_get items at ≡ Some one
+      there = slice_get_read items (length items) at one refl lt value
+
+-- ---- a poll
+
+length_with : (rows : List Row) (events : List SocketEvent) → length (with_events rows events) ≡ length rows
+length_with rows [] = refl
+length_with rows (event ∷ events) = length_with (with_event rows event) events ∙ length_set rows event.key _
+
+events_bits : (rows : List Row) (events : List SocketEvent) (key : ℕ) → bit (with_events rows events) key ≡ bit rows key
+events_bits rows [] key = refl
+events_bits rows (event ∷ events) key = events_bits (with_event rows event) events key ∙ same_bits rows event.key _ key refl
+
+-- rows of which others were taken before and after
+pub held_alike : (old new : Table) (keys : List ℕ) → ((key : ℕ) → taken_at new key ≡ taken_at old key) →
+    length new.rows ≡ length old.rows → length new.deadlines ≡ length old.deadlines → AreRowsOf old keys → AreRowsOf new keys
+held_alike old new keys same rows places held = record {
+  taken = λ key. same key ∙ held.taken key;
+  beyond = λ key lt. held.beyond key (omega (arith, lt, places));
+  count = omega (arith, rows, places, held.count);
+}
+
+-- a poll keeps who holds the rows
+pub polls_hold : {N C : Type 0} (transition : N → NetworkCall C → N → Type 0) (time : Option Duration) (old : N) (before : Table)
+    (new : N) (after : Table) (keys : List ℕ) → PollsOnce transition time old before new after → AreRowsOf before keys →
+    AreRowsOf after keys
+polls_hold transition time old before new after keys h =
+    held_alike before after keys
+    (λ key. ap (λ (t : Table). taken_at t key) h.table ∙ ap one_if (events_bits before.rows h.news key))
+    (ap (λ (t : Table). length t.rows) h.table ∙ length_with before.rows h.news)
+    (ap (λ (t : Table). length t.deadlines) h.table)

@@ -1,8 +1,8 @@
 -- The rows of a table, the deadlines of its places, and what a poll wakes.
 use Rattle.std.proofs.Common.{◌≡◌, ◌≢◌, ℕ, zero, suc, ◌+◌, ◌*◌, ◌<◌, ◌≤◌, Bool, true, false, List, [], ◌∷◌, ◌++◌, length, get_or, take}
-use Rattle.std.proofs.Common.{refl, ap, sym, ◌∙◌, subst, arith, ◌==◌, eq-eqb}
+use Rattle.std.proofs.Common.{refl, ap, sym, ◌∙◌, subst, arith, ◌==◌}
 use Rattle.std.proofs.lemmas.Bool.{eqb-true, eqb-false, leb-true, leb-false, lt-leb, ltb-true, ltb-false, lt-ltb}
-use Rattle.std.proofs.lemmas.List.{replicate-append-replicate, length-replicate}
+use Rattle.std.proofs.lemmas.List.{replicate-append-replicate}
 use Rattle.std.proofs.lemmas.Option.{slice_get-get_or, slice_get_past}
 use Rattle.std.specs.Prelude.{◌/◌, if◌then◌else◌, nat_le, nat_lt, replicate, slice_get, slice_set, Option, Some, None}
 use Rattle.std.specs.Time.{instant_nanos}
@@ -178,6 +178,7 @@ row_untouched first place side (event ∷ events) rows lt away =
   where
     key : ℕ
     key = key_of place side
+
     by : (inside : Bool) → nat_lt event.key first ≡ inside →
         is_among place (if inside then event.key / 2 ∷ event_places first events else event_places first events) ≡ false →
         (is_among place (event_places first events) ≡ false →
@@ -186,9 +187,9 @@ row_untouched first place side (event ∷ events) rows lt away =
     by true e none rest =
         let zero_of = none_among place (event.key / 2 ∷ event_places first events) none in
         let far : key ≢ event.key = λ same.
-            let at : event.key / 2 ≡ place = ap (λ (n : ℕ). n / 2) (sym same) ∙ half place side in
-            let own : is_same (event.key / 2) place ≡ 1 = ap (λ (n : ℕ). is_same n place) at ∙ same_is_one place in
-            absurd (omega (arith, zero_of, own)) in
+        let at : event.key / 2 ≡ place = ap (λ (n : ℕ). n / 2) (sym same) ∙ half place side in
+        let own : is_same (event.key / 2) place ≡ 1 = ap (λ (n : ℕ). is_same n place) at ∙ same_is_one place in
+        absurd (omega (arith, zero_of, own)) in
         rest (not_among place (event_places first events) (omega (arith, zero_of)))
         ∙ row_elsewhere rows event.key key _ far
     by false e none rest =
@@ -278,6 +279,7 @@ one_late now place start deadlines queue ready new nearest h e = record {
     differ k away same =
         let there = subst (λ (n : ℕ). is_among n (h.late ++ place ∷ []) ≡ true) (sym same) (in_last place h.late) in
         absurd (cc)
+
     by : (k : ℕ) → k < place + 1 → (here : Bool) → (k == place) ≡ here →
         IsNotBefore nearest (due_at (slice_set deadlines place None) k)
     by k few true e =
@@ -304,16 +306,20 @@ one_later now place start deadlines queue ready nearest new h lt early e = recor
   where
     due : Option Instant
     due = get_or deadlines place None
+
     own : due_at deadlines place ≡ due
     own = read_due deadlines place lt
+
     first : due_at deadlines place ≡ due_at start place
     first = h.rest place (omega arith)
+
     still : (k : ℕ) → k < place + 1 → is_among k h.late ≡ false → (here : Bool) → (k == place) ≡ here →
         (due_at deadlines k ≡ due_at start k) × (is_past now (due_at start k) ≡ false)
     still k few away true f =
         subst (λ (n : ℕ). (due_at deadlines n ≡ due_at start n) × (is_past now (due_at start n) ≡ false)) (sym (eqb-true k place f))
         (first, ap (λ (d : Option Instant). is_past now d) (sym first ∙ own) ∙ early)
     still k few away false f = let far : k ≢ place = eqb-false k place f in h.asleep k (omega (arith, far, few)) away
+
     by : (k : ℕ) → k < place + 1 → (here : Bool) → (k == place) ≡ here → IsNotBefore (earlier nearest due) (due_at deadlines k)
     by k few true f =
         subst (λ (d : Option Instant). IsNotBefore (earlier nearest due) d)
@@ -331,8 +337,7 @@ all_asleep now end start deadlines queue ready nearest h le k away = by (nat_lt 
     by : (inside : Bool) → nat_lt k end ≡ inside → (due_at deadlines k ≡ due_at start k) × (is_past now (due_at start k) ≡ false)
     by true e = h.asleep k (ltb-true k end e) away
     by false e =
-        let past = ltb-false k end e in
-        (
+        let past = ltb-false k end e in (
           h.rest k (omega (arith, past)),
           ap (λ (d : Option Instant). is_past now d) (past_end start k (omega (arith, past, le))) ∙ never_past now,
         )

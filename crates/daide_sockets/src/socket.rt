@@ -92,11 +92,7 @@ impl<'w, S: Duplex + Drop> Socket<'w, S> {
 
     /// Has the connection, whose session is over, followed under another key. If the system refuses, nothing more is reported
     /// of it, so it may be read and written until that finds nothing to do.
-    pub(crate) fn move_to<N: Network<Connection = S>>(
-        &mut self,
-        poller: &mut Poller<N>,
-        key: usize,
-    )
+    pub(crate) fn move_to<N: Network<Connection = S>>(&mut self, poller: &mut Poller<N>, key: usize)
         ensures call { (is_followed : Bool) × N.transition poller.old.network
             (Follows self.old.stream.stream key is_followed self.new.stream.stream) poller.new.network
             × (self.new.readiness ≡ after_move is_followed self.old.readiness) }

@@ -1,5 +1,5 @@
-use Rattle.std.proofs.Common.{◌+◌, length, arith, sym, ◌∙◌, refl}
-use Rattle.daide_sockets.proofs.TableLemmas.{AreWoken, one_late, one_later, all_asleep, all_bounded}
+use Rattle.std.proofs.Common.{arith, sym, ◌∙◌}
+use Rattle.daide_sockets.proofs.TableLemmas.{one_late, one_later, all_asleep, all_bounded}
 use Rattle.daide_sockets.proofs.table.wake_late.Goals as goal
 use Rattle.daide_sockets.proofs.table.wake_late.Goals.{then-is_past, else-is_past}
 
