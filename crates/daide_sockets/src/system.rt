@@ -1,7 +1,8 @@
 //! The environment of the event loop, `System`, over sockets.
 
 ghost use Rattle.std.specs.Option.{is_some};
-ghost use Rattle.std.specs.Prelude.{◌≡◌, ◌⊎◌, ℕ, List, ◌<◌, ◌||◌, ◌&&◌, IfSome, IsSome, IsNone, None, true, false, [], length, not, slice_get};
+ghost use Rattle.std.specs.Prelude.{◌≡◌, ◌⊎◌, ℕ, List, Option, ◌<◌, ◌||◌, ◌&&◌, IfSome, IsSome, IsNone, None, true, false, [], length, not, slice_get};
+ghost use Rattle.std.specs.declared.time.Duration.{Duration};
 ghost use Rattle.daide_io.specs.Ports.{TurnBegins};
 ghost use Rattle.daide_io.specs.ReadyQueue.{is_among, woken_all};
 ghost use Rattle.daide_io.specs.System.{Polls, Shows, Accepts, Connects, BeginsTurn, Rests, Retires, Notifies};
@@ -20,7 +21,7 @@ ghost use Rattle.daide_sockets.specs.Pairing.{Arriving, ClosesBothAt, TakesOut, 
 ghost use Rattle.daide_sockets.specs.Present.{position_of, time_in, without_at};
 ghost use Rattle.daide_sockets.specs.Rows.{AreRowsOf, KeepsClosingRows, closing_keys};
 ghost use Rattle.daide_sockets.specs.Scheduling.{RunEvolves, run_state};
-ghost use Rattle.daide_sockets.specs.Snapshot.{seconds_between, IsSessionRow};
+ghost use Rattle.daide_sockets.specs.Snapshot.{IsSessionRow};
 ghost use Rattle.daide_sockets.specs.Sockets.{due_after};
 ghost use Rattle.daide_sockets.specs.Table.{Table, IsPollTime, unwatched};
 ghost use Rattle.daide_sockets.specs.Timers.{SetsTimers, timers_of};
