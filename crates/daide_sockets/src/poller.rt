@@ -65,7 +65,7 @@ impl<N: Network> Poller<N> {
 
     /// Polls the network once, and reads the clock. Blocks only if it may, and if nothing that is watched has work: until a
     /// socket is ready, or until the nearest deadline.
-    pub(crate) fn poll(&mut self, may_block: bool)
+    pub fn poll(&mut self, may_block: bool)
         ensures { (time : Option Duration) × IsPollTime may_block self.old.table time
             × (polls : PollsOnce N.transition time self.old.network self.old.table self.new.network self.new.table)
             × (polls.news ≡ self.new.news.items) }

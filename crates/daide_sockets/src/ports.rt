@@ -384,7 +384,7 @@ impl<'w, S: Drop> SocketPorts<'w, S> {
     }
 
     /// Returns the nearest deadline of the session after its last turn; `None` if there is none.
-    pub(crate) fn due(&self) -> Option<Instant>
+    pub fn due(&self) -> Option<Instant>
         ensures { result ≡ session_due (record {
           bot = self.now.bot;
           server = self.now.server;

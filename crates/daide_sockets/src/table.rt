@@ -524,6 +524,13 @@ impl SocketTable {
         self.watched_due = earlier(self.watched_due, due);
     }
 
+    /// Returns what the next poll watches beside the places: whether something may be done at once, and the nearest deadline.
+    pub fn watched(&self) -> (bool, Option<Instant>)
+        ensures { result ≡ (self.now.watched_work, self.now.watched_due) }
+    {
+        (self.watched_work, self.watched_due)
+    }
+
     /// Forgets what was watched.
     pub fn unwatch(&mut self)
         ensures { self.new ≡ unwatched self.old }
