@@ -1,5 +1,5 @@
 -- The calls of a non-blocking stream with their results.
-use Rattle.std.specs.Prelude.{ℕ, List, Result, Ok, Err}
+use Rattle.std.specs.Prelude.{◌≡◌, ℕ, List, Option, Result, Ok, Err}
 use Rattle.std.specs.IoError.{error_kind}
 use Rattle.std.specs.declared.io.Error.{Error}
 use Rattle.std.specs.declared.io.ErrorKind.{ErrorKind}
@@ -23,3 +23,10 @@ pub data StreamCall : Type 0 where
   Read : ℕ → IoResult → StreamCall
   Written : List ℕ → IoResult → StreamCall
   WritingEnded : StreamCall
+
+-- a stream will still return the same bytes, and it records the same bytes written and the same trace
+pub record IsSameStream {S : Type 0} (to_give taken : S → Option (List ℕ)) (calls : S → Option (List StreamCall)) (old new : S) :
+    Type 0 where
+  pub gives : to_give new ≡ to_give old
+  pub takes : taken new ≡ taken old
+  pub trace : calls new ≡ calls old

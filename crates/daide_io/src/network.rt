@@ -5,6 +5,7 @@
 
 ghost use Rattle.std.specs.Prelude.{◌≡◌};
 ghost use Rattle.daide_io.specs.Network.{NetworkCall, ReadsClock, Polls, Listens, AcceptsConnection, BeginsConnect};
+ghost use Rattle.daide_io.specs.Streams.{IsSameStream};
 ghost use Rattle.daide_io.specs.Network.{StopsListening, ListensForControl, AcceptsControl, Follows, AsksConnect};
 
 use crate::duplex::Duplex;
@@ -94,7 +95,9 @@ pub trait Network: Drop {
     /// Follows a connection, which was followed under another key, under this one from now on. What is ready already is
     /// reported again. Returns whether the system accepts that; if not, nothing more is reported of the connection.
     fn refollow(&mut self, connection: &mut Self::Connection, key: usize) -> bool
-        ensures { transition self.old (Follows connection.old key result connection.new) self.new };
+        ensures call { transition self.old (Follows connection.old key result connection.new) self.new }
+        ensures same { IsSameStream Self.Connection.to_give Self.Connection.taken Self.Connection.calls connection.old
+            connection.new };
 
     /// Returns the state of a connection's connect.
     fn connect_status(&mut self, connection: &Self::Connection) -> ConnectStatus

@@ -13,6 +13,7 @@ use daide_frame::Side;
 use daide_io::ports::{ClockEvent, Ports, Pull, Put};
 use daide_io::system::System;
 use daide_log_lines::event_line::MOST;
+use std::cell::Cell;
 use std::marker::Model;
 
 /// Whether bytes move between the two sides, by what the ports returned last.
@@ -63,8 +64,8 @@ pub struct Recording<P: Ports, W: Sink + Drop> {
     activity: Activity,
     present: Option<Moment>,
     last: Option<Moment>,
-    /// How the record would have ended when the turn began.
-    ending_before: RecordEnd,
+    /// How the record would have ended when its end was last reported.
+    reported: Cell<RecordEnd>,
 }
 
 impl<P: Ports, W: Sink + Drop> Model for Recording<P, W> {
@@ -96,14 +97,14 @@ impl<P: Ports, W: Sink + Drop> Recording<P, W> {
           last = began;
         } }
     {
-        let ending_before = log.ending();
+        let reported = Cell::new(log.ending());
         Recording {
             ports,
             log,
             activity: Activity::Moving,
             present: began,
             last: began,
-            ending_before,
+            reported,
         }
     }
 
@@ -113,14 +114,18 @@ impl<P: Ports, W: Sink + Drop> Recording<P, W> {
         ensures time { self.new.present ≡ now }
         ensures asked { S.transition system.old (BeginsTurn place self.old.ports self.new.ports) system.new }
     {
-        self.ending_before = self.log.ending();
         self.present = now;
         system.begin_turn(place, &mut self.ports);
     }
 
-    /// Returns whether the record failed or became full since the last turn began.
-    pub fn has_just_ended(&self) -> bool {
-        self.log.ending() != self.ending_before
+    /// Returns whether the record failed or became full, and that was not reported yet.
+    pub fn has_unreported_end(&self) -> bool {
+        self.log.ending() != self.reported.get()
+    }
+
+    /// Notes that the record's end was reported.
+    pub fn note_reported(&self) {
+        self.reported.set(self.log.ending());
     }
 
     /// Records the time that is due, if one is.

@@ -50,9 +50,10 @@ module _ {P S : Type 0} (streams : P → Buffer S × Buffer S) (to_give taken : 
 
   pub served_exchange : (settings : Settings) (answers : List (SystemCall P)) (now : SessionView × QuotaPortsView P) →
       IsServed transition settings answers now →
-      (ports : P) × Contains answers (Connects (Ready ports)) × ((history : List PortCall) ×
+      (place : ℕ) × (ports : P) × Contains answers (Connects place (Ready ports)) × ((history : List PortCall) ×
       Exchanges to_give taken (run_limits settings) history (streams ports) now.0 (streams now.1.ports))
   served_exchange settings answers now h = (
+    h.place,
     h.ports,
     h.came,
     (

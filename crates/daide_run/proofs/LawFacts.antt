@@ -5,7 +5,7 @@ use Rattle.std.specs.Io.KnownBytes.{Consumes}
 use Rattle.daide_frame.specs.declared.side.Side.TheVariants.{Bot}
 use Rattle.daide_protocol.specs.Machine.{Limits}
 use Rattle.daide_io.specs.Ports.{PortCall, Pulled, EvolvesBy}
-use Rattle.daide_io.specs.System.{no_orders, Begins, Accepts, Connects, TransitsBy}
+use Rattle.daide_io.specs.System.{no_orders, Polls, Accepts, Connects, TransitsBy}
 use Rattle.daide_protocol.specs.Wires.{SessionView}
 use Rattle.daide_io.specs.declared.ports.Pull.TheVariants.{Got}
 use Rattle.daide_io.specs.declared.system.Connect.TheVariants.{Ready}
@@ -23,10 +23,10 @@ use Rattle.daide_run.specs.Exchanged.{SessionsExchange, ServedSessionsExchange}
 -- two of three accepts returned a bot
 two_came : {P S : Type 0} (to_give taken : S → Option (List ℕ)) (calls : S → Option (List StreamCall)) →
     BotsAreCounted P to_give taken calls → (pair : P → Paired S) (old new : RunSockets S) → old.came ≡ 0 →
-    TransitsBy (Transits to_give taken calls pair) old (Begins no_orders ∷ Accepts true ∷ Accepts false ∷ Accepts true ∷ []) new →
-    new.came ≡ 2
+    TransitsBy (Transits to_give taken calls pair) old
+    (Polls true [] no_orders ∷ Accepts 0 true ∷ Accepts 1 false ∷ Accepts 1 true ∷ []) new → new.came ≡ 2
 two_came to_give taken calls law pair old new none goes =
-    law pair old new (Begins no_orders ∷ Accepts true ∷ Accepts false ∷ Accepts true ∷ []) goes ∙ ap (λ (n : ℕ). n + 2) none
+    law pair old new (Polls true [] no_orders ∷ Accepts 0 true ∷ Accepts 1 false ∷ Accepts 1 true ∷ []) goes ∙ ap (λ (n : ℕ). n + 2) none
 
 -- one byte heard from the bot is the next byte of its stream
 heard_one : {S : Type 0} (to_give got : S → Option (List ℕ)) → SessionsExchange to_give got → (limits : Limits)
@@ -41,7 +41,8 @@ heard_one to_give got law limits first now g moves exact none =
 came_by_a_connect : {P S : Type 0} (transition : P → PortCall → P → Type 0) (streams : P → Buffer S × Buffer S)
     (to_give taken : S → Option (List ℕ)) → ServedSessionsExchange transition streams to_give taken →
     (settings : Settings) (given : P) (now : SessionView × QuotaPortsView P) →
-    IsServed transition settings (Connects (Ready given) ∷ []) now →
-    (ports : P) × Contains (Connects (Ready given) ∷ []) (Connects (Ready ports))
+    IsServed transition settings (Connects 3 (Ready given) ∷ []) now →
+    (place : ℕ) × (ports : P) × Contains (Connects 3 (Ready given) ∷ []) (Connects place (Ready ports))
 came_by_a_connect transition streams to_give taken law settings given now served =
-    let exchanged = law settings (Connects (Ready given) ∷ []) now served in (exchanged.0, exchanged.1)
+    let exchanged = law settings (Connects 3 (Ready given) ∷ []) now served in
+    (exchanged.0, exchanged.1, exchanged.2)

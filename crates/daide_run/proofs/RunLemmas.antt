@@ -1,5 +1,5 @@
 -- How a run ends, by the calls that the loop made of a system over sockets.
-use Rattle.std.proofs.Common.{◌≡◌, ℕ, List, [], ◌∷◌, Option, None, Some, Result, Ok, Err, inl, inr, ap, ◌∙◌}
+use Rattle.std.proofs.Common.{◌≡◌, ℕ, List, [], ◌∷◌, Option, None, Some, Result, Ok, Err, inl, inr, ap, sym, subst}
 use Rattle.std.specs.Prelude.{IfSome}
 use Rattle.std.specs.Result.{OnOk, IfErr}
 use Rattle.std.specs.declared.time.Duration.{Duration}
@@ -11,7 +11,7 @@ use Rattle.daide_event_loop.specs.Served.{IsWholeRun}
 use Rattle.daide_event_loop.specs.Serving.{GivesUp}
 use Rattle.daide_io.specs.Streams.{StreamCall}
 use Rattle.daide_sockets.specs.Lingering.{ClosingList, no_closing}
-use Rattle.daide_sockets.specs.Pairing.{Arriving, Paired, RunSockets, Transits}
+use Rattle.daide_sockets.specs.Pairing.{Arriving, Paired, RunSockets, Transits, pending_in}
 use Rattle.daide_sockets.specs.Times.{IsIdleTime}
 use Rattle.daide_run.specs.declared.gateway.GatewayFault.TheVariants as gateway_faults
 use Rattle.daide_run.specs.declared.running.RunFault.{RunFault}
@@ -35,52 +35,54 @@ ran_on transition port_transition settings failed before after begun last (Err f
     (said, last, given_up.0, given_up.1, given_up.2)
 
 -- sockets to which no bot came, part by part
-pub none_yet : {S : Type 0} (seconds : ℕ) (time : Option Duration) (came : ℕ) (arrivals : List (Arriving S))
-    (closing : ClosingList S) → IsIdleTime seconds time → came ≡ 0 → arrivals ≡ [] → closing ≡ no_closing time →
+pub none_yet : {S : Type 0} (seconds : ℕ) (time : Option Duration) (came : ℕ) (arrivals : List (Option (Arriving S)))
+    (closing : ClosingList S) → IsIdleTime seconds time → came ≡ 0 → pending_in arrivals ≡ 0 → closing ≡ no_closing time →
     HasNoSockets seconds (record { came = came; arrivals = arrivals; closing = closing })
-none_yet seconds time came arrivals closing idle e f g = (time, idle, cc)
+none_yet seconds time came arrivals closing idle e f g = (time, idle, e, f, g)
 
 -- a system that is the same has the same sockets
 pub still_none : {S T : Type 0} (sockets_of : T → RunSockets S) (seconds : ℕ) (now before : T) → now ≡ before →
     HasNoSockets seconds (sockets_of before) → HasNoSockets seconds (sockets_of now)
-still_none sockets_of seconds now before e h = (h.0, h.1, ap sockets_of e ∙ h.2)
+still_none sockets_of seconds now before e h = subst (λ t. HasNoSockets seconds (sockets_of t)) (sym e) h
 
 -- what holds of whatever value there is
 pub of_whatever : {T : Type 0} (X : Type 0) (value : Option T) → X → IfSome value (λ t. X)
 of_whatever X None h = tt
 of_whatever X (Some t) h = h
 
--- A run on a system of which sockets are a part. Each call has its effect on them, whatever else it does.
+-- A run on a system of which sockets are a part. Each call has its effect on them, whatever else it does, while this holds of
+-- the system, which each call keeps.
 module _ {P S T : Type 0} (to_give taken : S → Option (List ℕ)) (calls : S → Option (List StreamCall))
     (pair : P → Paired S) (transition : P → PortCall → P → Type 0) (sockets_of : T → RunSockets S)
-    (step : T → SystemCall P → T → Type 0) (moves : (old : T) (answer : SystemCall P) (new : T) → step old answer new →
-    Transits to_give taken calls pair (sockets_of old) answer (sockets_of new)) where
+    (step : T → SystemCall P → T → Type 0) (Holds : T → Type 0) (moves : (old : T) (answer : SystemCall P) (new : T) → Holds old →
+    step old answer new → Holds new × Transits to_give taken calls pair (sockets_of old) answer (sockets_of new)) where
   -- the sockets of a system follow its calls
-  sockets_go : (answers : List (SystemCall P)) (old new : T) → TransitsBy step old answers new →
+  sockets_go : (answers : List (SystemCall P)) (old new : T) → Holds old → TransitsBy step old answers new →
       TransitsBy (Transits to_give taken calls pair) (sockets_of old) answers (sockets_of new)
-  sockets_go [] old new e = ap sockets_of e
-  sockets_go (answer ∷ answers) old new h = (sockets_of h.0, moves old answer h.0 h.1, sockets_go answers h.0 new h.2)
+  sockets_go [] old new holds e = ap sockets_of e
+  sockets_go (answer ∷ answers) old new holds h =
+      let moved = moves old answer h.0 holds h.1 in (sockets_of h.0, moved.1, sockets_go answers h.0 new moved.0 h.2)
 
-  runs : (seconds : ℕ) (Kind : List (SystemCall P) → Type 0) (old last : T) → HasNoSockets seconds (sockets_of old) →
+  runs : (seconds : ℕ) (Kind : List (SystemCall P) → Type 0) (old last : T) → HasNoSockets seconds (sockets_of old) → Holds old →
       ((answers : List (SystemCall P)) × TransitsBy step old answers last × Kind answers) →
       RunsBy to_give taken calls pair seconds Kind
-  runs seconds Kind old last begun h =
-      (h.0, sockets_of old, sockets_of last, begun, sockets_go h.0 old last h.1, h.2)
+  runs seconds Kind old last begun holds h =
+      (h.0, sockets_of old, sockets_of last, begun, sockets_go h.0 old last holds h.1, h.2)
 
   pub run_ends : (settings : Settings) (failed : Type 0) (before after : Option (List ℕ)) (begun : T)
       (result : Result (Unit {0}) RunFault) → RunsOn step transition settings failed before after begun result →
-      HasNoSockets settings.stall_seconds (sockets_of begun) →
+      HasNoSockets settings.stall_seconds (sockets_of begun) → Holds begun →
       RunEnds to_give taken calls pair transition settings failed before after result
-  run_ends settings failed before after begun (Ok done) h none =
-      (h.0, runs settings.stall_seconds (IsWholeRun transition settings) begun h.1 none (h.2, h.3, h.4))
-  run_ends settings failed before after begun (Err (Gateway (gateway_faults.Serve fault))) h none =
-      (h.0, runs settings.stall_seconds (GivesUp (λ n. Unit {0}) transition settings fault) begun h.1 none (h.2, h.3, h.4))
-  run_ends settings failed before after begun (Err (Gateway (gateway_faults.Name key))) h none = absurd h
-  run_ends settings failed before after begun (Err (Gateway (gateway_faults.Listen key cause))) h none = absurd h
-  run_ends settings failed before after begun (Err (Gateway gateway_faults.Memory)) h none = absurd h
-  run_ends settings failed before after begun (Err run_faults.Memory) h none = absurd h
-  run_ends settings failed before after begun (Err (run_faults.Record cause)) h none = absurd h
-  run_ends settings failed before after begun (Err (run_faults.Settings fault)) h none = absurd h
+  run_ends settings failed before after begun (Ok done) h none holds =
+      (h.0, runs settings.stall_seconds (IsWholeRun transition settings) begun h.1 none holds (h.2, h.3, h.4))
+  run_ends settings failed before after begun (Err (Gateway (gateway_faults.Serve fault))) h none holds =
+      (h.0, runs settings.stall_seconds (GivesUp (λ n. Unit {0}) transition settings fault) begun h.1 none holds (h.2, h.3, h.4))
+  run_ends settings failed before after begun (Err (Gateway (gateway_faults.Name key))) h none holds = absurd h
+  run_ends settings failed before after begun (Err (Gateway (gateway_faults.Listen key cause))) h none holds = absurd h
+  run_ends settings failed before after begun (Err (Gateway gateway_faults.Memory)) h none holds = absurd h
+  run_ends settings failed before after begun (Err run_faults.Memory) h none holds = absurd h
+  run_ends settings failed before after begun (Err (run_faults.Record cause)) h none holds = absurd h
+  run_ends settings failed before after begun (Err (run_faults.Settings fault)) h none holds = absurd h
 
 module _ {P S : Type 0} (to_give taken : S → Option (List ℕ)) (calls : S → Option (List StreamCall)) (pair : P → Paired S)
     (transition : P → PortCall → P → Type 0) where

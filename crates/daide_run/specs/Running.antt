@@ -1,5 +1,5 @@
 -- The effect of a run, from its settings on. (own)
-use Rattle.std.specs.Prelude.{◌≡◌, ◌≢◌, ◌⊎◌, ℕ, List, [], Option, Result, Ok, Err}
+use Rattle.std.specs.Prelude.{◌≡◌, ◌≢◌, ◌⊎◌, ℕ, List, Option, Result, Ok, Err}
 use Rattle.std.specs.declared.io.ErrorKind.{ErrorKind}
 use Rattle.std.specs.declared.time.Duration.{Duration}
 use Rattle.toml.specs.Parse.{parse_document}
@@ -16,7 +16,7 @@ use Rattle.daide_event_loop.specs.Serving.{GivesUp}
 use Rattle.daide_io.specs.Streams.{StreamCall}
 use Rattle.daide_sockets.specs.Addresses.{MayBeUnknown}
 use Rattle.daide_sockets.specs.Lingering.{no_closing}
-use Rattle.daide_sockets.specs.Pairing.{Paired, RunSockets, Transits}
+use Rattle.daide_sockets.specs.Pairing.{Paired, RunSockets, Transits, pending_in}
 use Rattle.daide_sockets.specs.Times.{IsIdleTime}
 use Rattle.daide_run.specs.Gateway.{Announces}
 use Rattle.daide_run.specs.declared.gateway.GatewayFault.TheVariants as gateway_faults
@@ -24,10 +24,11 @@ use Rattle.daide_run.specs.declared.running.RunFault.{RunFault}
 use Rattle.daide_run.specs.declared.running.RunFault.TheVariants.{Memory, Record, Gateway}
 use Rattle.daide_run.specs.declared.running.RunFault.TheVariants as run_faults
 
--- sockets to which no bot came, and of which none closes; a peer of one that closes has so many seconds to take bytes
+-- sockets to which no bot came, of which no connect is pending and none closes; a peer of one that closes has so many seconds
+-- to take bytes
 abbrev pub HasNoSockets : {S : Type 0} → ℕ → RunSockets S → Type 0
 HasNoSockets stall_seconds sockets = (time : Option Duration) × IsIdleTime stall_seconds time
-    × (sockets ≡ record { came = 0; arrivals = []; closing = no_closing time })
+    × (sockets.came ≡ 0) × (pending_in sockets.arrivals ≡ 0) × (sockets.closing ≡ no_closing time)
 
 -- The sockets of a run began with none, and this property holds for the trace of their system calls.
 abbrev pub RunsBy : {P S : Type 0} → (S → Option (List ℕ)) → (S → Option (List ℕ)) →

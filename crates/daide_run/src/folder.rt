@@ -298,14 +298,15 @@ fn tell_end<F: Drop, E: Write>(file: &SessionFile<F>, end: RecordEnd, errors: &m
     }
 }
 
-/// Reports that a session's record has just broken off, if it has.
+/// Reports that a session's record broke off, if it did, once.
 pub(crate) fn tell_if_ended<P: Ports, F: Write + Drop, E: Write>(
     recorded: &Recording<P, SessionFile<F>>,
     errors: &mut E,
 ) {
-    if recorded.has_just_ended() {
+    if recorded.has_unreported_end() {
         let record = recorded.record();
         tell_end(record.writer(), record.ending(), errors);
+        recorded.note_reported();
     }
 }
 

@@ -1,10 +1,11 @@
 //! The gateway at the addresses of its settings.
 
-ghost use Rattle.std.specs.Prelude.{◌≡◌, List, IfErr, OnOk};
+ghost use Rattle.std.specs.Prelude.{◌≡◌, List, [], IfOk, IfErr, OnOk};
 ghost use Rattle.daide_io.specs.System.{SystemCall, TransitsBy};
 ghost use Rattle.daide_event_loop.specs.Served.{IsWholeRun};
 ghost use Rattle.daide_event_loop.specs.Serving.{IsServeCause, GivesUp};
 ghost use Rattle.daide_run.specs.Gateway.{IsBeforeServing, fault_by, Announces};
+ghost use Rattle.daide_sockets.specs.Rows.{AreRowsOf};
 ghost use Rattle.daide_log.specs.Recording.{HasFailed};
 
 use daide_event_loop::{ServeFault, serve};
@@ -105,7 +106,8 @@ pub fn bind<'r, R: AllocGlobal + Files + Clock + Net>(
     rt: &'r R,
     settings: &Settings,
 ) -> Result<BoundSockets<'r, R>, GatewayFault>
-    ensures { IfErr result (IsBeforeServing settings.now) }
+    ensures rows { IfOk result (λ bound. AreRowsOf bound.table []) }
+    ensures refused { IfErr result (IsBeforeServing settings.now) }
 {
     let mut bound = match bind_sockets(rt, settings) {
         Ok(bound) => bound,

@@ -1,7 +1,7 @@
 //! A run that records each session in a folder: the system of its sockets, with a record around the ports of each
 //! session. A run without records uses the sockets' own system, and nothing of this.
 
-ghost use Rattle.std.specs.Prelude.{◌≡◌, ◌⊎◌, ℕ, [], vec_capacity};
+ghost use Rattle.std.specs.Prelude.{◌≡◌, ◌⊎◌, ℕ, []};
 ghost use Rattle.daide_sockets.specs.Lingering.{GoOnFor};
 ghost use Rattle.daide_sockets.specs.Scheduling.{RunEvolves, run_state};
 
@@ -87,11 +87,11 @@ impl<'w, N: Network, R: AllocGlobal + Files, C: Clock, E: Write + Drop> System<
     ghost transition = { λ old answer new. RunEvolves N.transition N.Connection.to_give N.Connection.taken
         N.Connection.calls (λ ports. ports.ports)
         (run_state (old.sockets.now.poller.network, old.sockets.now.poller.table) (old.sockets.now.idle_time, old.sockets.now.stall_time)
-        old.sockets.now.acceptor old.sockets.now.control (vec_capacity old.sockets.now.arrivals) old.sockets.now.arrivals.items old.sockets.now.closings) answer
+        old.sockets.now.acceptor old.sockets.now.arrivals.items old.sockets.now.closings) answer
         (run_state (new.sockets.now.poller.network, new.sockets.now.poller.table) (new.sockets.now.idle_time, new.sockets.now.stall_time)
-        new.sockets.now.acceptor new.sockets.now.control (vec_capacity new.sockets.now.arrivals) new.sockets.now.arrivals.items new.sockets.now.closings) };
+        new.sockets.now.acceptor new.sockets.now.arrivals.items new.sockets.now.closings) };
 
-    /// The times that are recorded in the round are that of its beginning.
+    /// The times that are recorded until the next poll are that of this one.
     fn poll<A: Allocator>(&mut self, may_block: bool, ready: &mut ReadyQueue<A>) -> Orders {
         let orders = self.sockets.poll(may_block, ready);
         self.now = moment_by(self.clock);
@@ -115,13 +115,14 @@ impl<'w, N: Network, R: AllocGlobal + Files, C: Clock, E: Write + Drop> System<
         ports.begin_turn(place, self.sockets, self.now);
     }
 
-    /// A record that has just ended is something to do at once, so that the next turn begins and it is logged.
+    /// A record may also break off in a turn that makes no progress, since it is written then.
     fn rest(
         &mut self,
         place: usize,
         ports: &Recording<SocketPorts<'w, N::Connection>, SessionFile<R::File>>,
     ) -> bool {
-        !ports.has_just_ended() && self.sockets.rest(place, ports.ports())
+        tell_if_ended(ports, &mut self.sockets.errors);
+        self.sockets.rest(place, ports.ports())
     }
 
     fn accept(&mut self, place: usize) -> bool {

@@ -1,8 +1,9 @@
 //! A run of a text of settings: binds, serves until all bots were served, and finishes closing.
 
-ghost use Rattle.std.specs.Prelude.{◌≡◌, None, IfErr, IfSome};
+ghost use Rattle.std.specs.Prelude.{◌≡◌, [], None, IfErr, IfSome};
 ghost use Rattle.daide_log.specs.Recording.{HasFailed};
 ghost use Rattle.daide_run.specs.Running.{HasNoSockets, RunEnds, RunsOn, TextRuns, RecordedRunEnds, RecordedTextRuns, IsOfText, ending_by};
+ghost use Rattle.daide_sockets.specs.Rows.{AreRowsOf, closing_keys};
 ghost use Rattle.daide_sockets.specs.Scheduling.{pair_of};
 
 use crate::folder::{Folder, SessionFile};
@@ -105,11 +106,12 @@ fn run_plain<N: Network<Connection = Connection>, O: Sink, E: Write + Drop>(
     sockets: &mut Sockets<'_, N, E>,
     output: &mut O,
 ) -> Result<(), RunFault>
-    requires { HasNoSockets settings.now.stall_seconds (record {
+    requires none { HasNoSockets settings.now.stall_seconds (record {
       came = sockets.old.acceptor.came;
       arrivals = sockets.old.arrivals.items;
       closing = sockets.old.closings;
     }) }
+    requires rows { AreRowsOf sockets.old.poller.table (closing_keys sockets.old.closings.streams) }
     ensures { RunEnds ⟦<Connection as Duplex>⟧.to_give ⟦<Connection as Duplex>⟧.taken ⟦<Connection as Duplex>⟧.calls
         (λ ports. pair_of ports)
         ⟦<SocketPorts<'static, Connection> as Ports>⟧.transition settings.now (HasFailed O.Fails)
@@ -132,11 +134,12 @@ fn run_recording<
     folder: &Folder<'_, F>,
     output: &mut O,
 ) -> Result<(), RunFault>
-    requires { HasNoSockets settings.now.stall_seconds (record {
+    requires none { HasNoSockets settings.now.stall_seconds (record {
       came = sockets.old.acceptor.came;
       arrivals = sockets.old.arrivals.items;
       closing = sockets.old.closings;
     }) }
+    requires rows { AreRowsOf sockets.old.poller.table (closing_keys sockets.old.closings.streams) }
     ensures { RunEnds ⟦<Connection as Duplex>⟧.to_give ⟦<Connection as Duplex>⟧.taken ⟦<Connection as Duplex>⟧.calls
         (λ ports. pair_of ports.ports)
         ⟦<Recording<SocketPorts<'static, Connection>, SessionFile<F::File>> as Ports>⟧.transition settings.now
@@ -161,11 +164,12 @@ fn serve_opened<
     sockets: &mut Sockets<'_, N, E>,
     output: &mut O,
 ) -> Result<(), RunFault>
-    requires { HasNoSockets settings.now.stall_seconds (record {
+    requires none { HasNoSockets settings.now.stall_seconds (record {
       came = sockets.old.acceptor.came;
       arrivals = sockets.old.arrivals.items;
       closing = sockets.old.closings;
     }) }
+    requires rows { AreRowsOf sockets.old.poller.table (closing_keys sockets.old.closings.streams) }
     ensures plain { folder.entry ≡ None →
         RunEnds ⟦<Connection as Duplex>⟧.to_give ⟦<Connection as Duplex>⟧.taken ⟦<Connection as Duplex>⟧.calls
         (λ ports. pair_of ports)
@@ -199,6 +203,7 @@ fn serve_bound<
     output: &mut O,
     errors: E,
 ) -> Result<(), RunFault>
+    requires { AreRowsOf ground.entry.2 [] }
     ensures plain { reports.entry.folder ≡ None →
         RunEnds ⟦<Connection as Duplex>⟧.to_give ⟦<Connection as Duplex>⟧.taken ⟦<Connection as Duplex>⟧.calls
         (λ ports. pair_of ports)

@@ -1,8 +1,19 @@
 -- The rounds at the end of a run.
-use Rattle.std.proofs.Common.{◌≡◌, ℕ, suc, ◌+◌, List, Option, subst, arith}
+use Rattle.std.proofs.Common.{◌≡◌, ℕ, suc, ◌+◌, Bool, true, List, length, Option, refl, ap, ◌∙◌, subst, arith}
+use Rattle.std.specs.declared.time.Duration.{Duration}
+use Rattle.std.specs.declared.time.Instant.{Instant}
 use Rattle.daide_io.specs.Network.{NetworkCall}
 use Rattle.daide_io.specs.Streams.{StreamCall}
-use Rattle.daide_sockets.specs.Finishing.{Finish, FinishRound, FinishesFor}
+use Rattle.daide_sockets.specs.declared.table.Row.{Row}
+use Rattle.daide_sockets.specs.Beside.{closings_watched}
+use Rattle.daide_sockets.specs.Finishing.{Finish, FinishRound, FinishesFor, WaitsOnce}
+use Rattle.daide_sockets.specs.InTime.{watching_all}
+use Rattle.daide_sockets.specs.Lingering.{ClosingStream}
+use Rattle.daide_sockets.specs.Rows.{AreRowsOf, taken_at}
+use Rattle.daide_sockets.specs.Table.{Table, IsPollTime, PollsOnce, unwatched}
+use Rattle.daide_sockets.proofs.BesideLemmas.{closings_by_rows}
+use Rattle.daide_sockets.proofs.InTimeLemmas.{same_due, same_places, same_rows}
+use Rattle.daide_sockets.proofs.RowLemmas.{held_alike, polls_hold}
 
 pub one_wait_more : {N C S : Type 0} (transition : N → NetworkCall C → N → Type 0) (to_give taken : S → Option (List ℕ))
     (calls : S → Option (List StreamCall)) (rounds : ℕ) (old mid new : Finish N S) →
@@ -11,3 +22,36 @@ pub one_wait_more : {N C S : Type 0} (transition : N → NetworkCall C → N →
 one_wait_more transition to_give taken calls rounds old mid new h k =
     let more : suc rounds ≡ rounds + 1 = omega (arith) in
     subst (λ (n : ℕ). FinishesFor transition to_give taken calls n old new) more (mid, h, k)
+
+module _ {N C : Type 0} (transition : N → NetworkCall C → N → Type 0) (others : List (Bool × Option Instant)) (old : N)
+    (before : Table) (new : N) (after : Table) (waits : WaitsOnce transition others old before new after) where
+  abbrev watched : Table
+  watched = watching_all (unwatched before) others
+
+  -- a wait changes no deadline of a place
+  pub waits_due : after.due ≡ before.due
+  waits_due = ap (λ (t : Table). t.due) waits.polls.table ∙ same_due (unwatched before) others
+
+  -- nor who holds the rows
+  pub waits_hold : (keys : List ℕ) → AreRowsOf before keys → AreRowsOf after keys
+  waits_hold keys held =
+      polls_hold transition waits.time old watched new after keys waits.polls
+      (held_alike before watched keys
+      (λ key. ap (λ (rows : List Row). taken_at (record before { rows = rows }) key) (same_rows (unwatched before) others))
+      (ap length (same_rows (unwatched before) others)) (same_places (unwatched before) others) held)
+
+-- a wait that watches closing streams alone
+pub waited : {N C S : Type 0} (transition : N → NetworkCall C → N → Type 0) (streams : List (ClosingStream S)) (time : Option Duration)
+    (old : N) (before unwatching watching : Table) (new : N) (after : Table) → unwatching ≡ unwatched before →
+    watching ≡ watching_all unwatching (closings_watched unwatching streams) → IsPollTime true watching time →
+    PollsOnce transition time old watching new after → WaitsOnce transition (closings_watched before streams) old before new after
+waited transition streams time old before unwatching watching new after first then lasts polls = record {
+  time = time;
+  lasts = subst (λ (t : Table). IsPollTime true t time) all lasts;
+  polls = subst (λ (t : Table). PollsOnce transition time old t new after) all polls;
+}
+  where
+    all : watching ≡ watching_all (unwatched before) (closings_watched before streams)
+    all = then ∙ ap (λ (t : Table). watching_all t (closings_watched t streams)) first
+        ∙ ap (λ (w : List (Bool × Option Instant)). watching_all (unwatched before) w)
+        (closings_by_rows before (unwatched before) streams refl)

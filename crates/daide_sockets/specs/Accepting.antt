@@ -1,5 +1,6 @@
 -- The condition for an accept, and the calls on the network of which it is one. (own)
-use Rattle.std.specs.Prelude.{◌≡◌, ◌≤◌, ◌⊎◌, ℕ, zero, suc, ◌+◌, ◌||◌, Bool, true, false, List, length, Option, Some, None, Result, Ok, Err, slice_get}
+use Rattle.std.specs.Prelude.{◌≡◌, ◌≤◌, ◌⊎◌, ℕ, zero, suc, ◌+◌, ◌&&◌, ◌||◌, not, Bool, true, false, List, length}
+use Rattle.std.specs.Prelude.{Option, Some, None, Result, Ok, Err, slice_get}
 use Rattle.std.specs.IoError.{error_kind}
 use Rattle.std.specs.declared.io.Error.{Error}
 use Rattle.std.specs.declared.io.ErrorKind.{ErrorKind}
@@ -9,9 +10,10 @@ use Rattle.std.specs.declared.time.Instant.{Instant}
 use Rattle.daide_io.specs.Network.{NetworkCall, AcceptsConnection, BeginsConnect, AsksConnect, Follows}
 use Rattle.daide_io.specs.declared.network.ConnectStatus.{ConnectStatus}
 use Rattle.daide_buffered_io.specs.declared.readiness.Readiness.{Readiness}
+use Rattle.daide_sockets.specs.declared.admission.Acceptor.{Acceptor}
 use Rattle.daide_sockets.specs.declared.admission.Declined.{Declined}
 use Rattle.daide_sockets.specs.declared.admission.Declined.TheVariants as Declines
-use Rattle.daide_sockets.specs.Table.{Table, IsFull, report_at}
+use Rattle.daide_sockets.specs.Table.{Table, listener_key, merged, report_at}
 use Rattle.daide_sockets.specs.Times.{IsAfter, is_past}
 
 -- no bot is accepted for this many nanoseconds after a failed accept
@@ -29,10 +31,15 @@ abbrev pub Pauses : Option Instant → ErrorKind → Option Instant → Type 0
 Pauses now Kinds.WouldBlock resumes_at = resumes_at ≡ None
 Pauses now kind resumes_at = IsAfter now accept_pause resumes_at
 
--- whether an accept is made, by the acceptor's readiness, the report of its row, and the table's reading of the clock
+-- whether an accept is made, by a listener's readiness, the report of its row, and the table's reading of the clock
 abbrev pub is_accept_due : Table → ℕ → Readiness → Option Instant → Bool
 is_accept_due table key known resumes_at =
     is_accept_made table.reading (known.may_read || (report_at table key).may_read) resumes_at
+
+-- whether an accept of a bot is due: the listener is not closed, it is ready, and no pause is under way
+abbrev pub is_bot_due : Table → Acceptor → Bool
+is_bot_due table acceptor =
+    not acceptor.is_closed && is_accept_due table (listener_key table) acceptor.readiness acceptor.resumes_at
 
 -- what an accept is reported as: the connection, or the kind of the failure
 abbrev pub IsReportedAs : {C : Type 0} → Result (C × SocketAddr) Error → Result (C × SocketAddr) Declined → Type 0
@@ -96,6 +103,12 @@ ConnectsFrom {N = N} transition addresses place (suc count) old new = (mid : N) 
     × ConnectsFrom transition addresses place count old mid
     × (slice_get addresses (place + count) ≡ Some address) × ConnectsOnce transition address mid new
 
+-- A connect may have a result if its socket is writable by what is known of it, or by the report of its row. One that did
+-- not begin has failed.
+abbrev pub may_connect : Table → ℕ → Option Readiness → Bool
+may_connect table key None = true
+may_connect table key (Some known) = (merged known (report_at table key)).may_write
+
 -- no call was made, or one that asks for the state of a connect
 abbrev pub AsksAtMostOnce : {N C : Type 0} → (N → NetworkCall C → N → Type 0) → N → N → Type 0
 AsksAtMostOnce {C = C} transition old new =
@@ -128,16 +141,15 @@ pub record AcceptsThenConnects {N C : Type 0} (transition : N → NetworkCall C 
   pub count : ℕ
   pub connects : ConnectsFrom transition addresses 0 count mid new
 
--- Why a due accept brings no bot: it failed; or its bot may not come, by its address; or the table has no free row; or the
--- system refused to follow its connection.
-pub data BringsNoBot {N C : Type 0} (transition : N → NetworkCall C → N → Type 0) (may_come : SocketAddr → Bool) (old : N)
-    (table : Table) (new : N) : Type 0 where
-  Fails : (error : Error) → transition old (AcceptsConnection (Err error)) new → BringsNoBot transition may_come old table new
+-- Why a due accept brings no bot: it failed; or its bot may not come, by its address; or the system refused to follow its
+-- connection.
+pub data BringsNoBot {N C : Type 0} (transition : N → NetworkCall C → N → Type 0) (may_come : SocketAddr → Bool) (old new : N) :
+    Type 0 where
+  Fails : (error : Error) → transition old (AcceptsConnection (Err error)) new → BringsNoBot transition may_come old new
   MayNotCome : (came : C × SocketAddr) → transition old (AcceptsConnection (Ok came)) new → may_come came.1 ≡ false →
-      BringsNoBot transition may_come old table new
-  HasNoRow : IsFull table → BringsNoBot transition may_come old table new
+      BringsNoBot transition may_come old new
   IsRefused : (came : C × SocketAddr) (mid : N) (key : ℕ) (after : C) → transition old (AcceptsConnection (Ok came)) mid →
-      transition mid (Follows came.0 key false after) new → BringsNoBot transition may_come old table new
+      transition mid (Follows came.0 key false after) new → BringsNoBot transition may_come old new
 
 -- an accept was made, and gave a connection
 pub record GivesConnection {N C : Type 0} (transition : N → NetworkCall C → N → Type 0) (old : N) : Type 0 where

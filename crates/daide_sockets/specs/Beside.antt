@@ -1,17 +1,16 @@
--- What a wait watches beside the sessions: the listener, the connects under way, and the closing streams. (own)
-use Rattle.std.specs.Prelude.{◌||◌, ◌&&◌, not, Bool, true, List, [], ◌∷◌, ◌++◌, Option, Some, None, if◌then◌else◌, All}
+-- What a poll watches beside the places: the listener and the closing streams. (own)
+use Rattle.std.specs.Prelude.{◌||◌, ◌&&◌, not, Bool, true, List, [], ◌∷◌, Option, if◌then◌else◌, All}
 use Rattle.std.specs.declared.time.Duration.{Duration}
 use Rattle.std.specs.declared.time.Instant.{Instant}
 use Rattle.daide_buffered_io.specs.declared.readiness.Readiness.{Readiness}
 use Rattle.daide_buffered_io.specs.Buffers.{Buffer}
+use Rattle.daide_io.specs.Deadline.{earlier}
 use Rattle.daide_sockets.specs.declared.admission.Acceptor.{Acceptor}
-use Rattle.daide_sockets.specs.Accepting.{is_accept_due}
+use Rattle.daide_sockets.specs.Accepting.{is_bot_due}
 use Rattle.daide_sockets.specs.InTime.{IsInTimeFor, watching_all}
 use Rattle.daide_sockets.specs.Lingering.{ClosingStream}
-use Rattle.daide_sockets.specs.Pairing.{Arriving, ConnectRow}
 use Rattle.daide_sockets.specs.Sockets.{is_some_byte}
-use Rattle.daide_io.specs.Deadline.{earlier}
-use Rattle.daide_sockets.specs.Table.{Table, IsWaitTime, merged, report_at}
+use Rattle.daide_sockets.specs.Table.{Table, IsPollTime, merged, report_at}
 
 -- ---- a closing stream
 
@@ -35,56 +34,36 @@ stage_due closing = if is_some_byte closing.stream.write_buffer && not closing.s
 abbrev pub closing_due : {S : Type 0} → ClosingStream S → Option Instant
 closing_due closing = earlier (stage_due closing) closing.closes_at
 
--- each closing stream, as a wait watches it
+-- each closing stream, as a poll watches it
 abbrev pub closings_watched : {S : Type 0} → Table → List (ClosingStream S) → List (Bool × Option Instant)
 closings_watched table [] = []
 closings_watched table (closing ∷ others) =
     (may_close_on table closing, closing_due closing) ∷ closings_watched table others
 
--- ---- a connect
-
--- A connect may have a result: a poll reported that its socket is writable. One that did not begin has failed.
-abbrev pub may_connect : Table → Option ConnectRow → Bool
-may_connect table None = true
-may_connect table (Some row) = (merged row.known (report_at table row.key)).may_write
-
--- each connect, as a wait watches it
-abbrev pub arrivals_watched : {S : Type 0} → Table → List (Arriving S) → List (Bool × Option Instant)
-arrivals_watched table [] = []
-arrivals_watched table (arrival ∷ others) =
-    (may_connect table arrival.row, arrival.gives_up) ∷ arrivals_watched table others
-
 -- ---- the listener
 
--- The listener, as a wait watches it: whether the wait is for bots too and an accept is due; and the end of the pause of
+-- The listener, as a poll watches it: whether the poll is for bots too and an accept is due; and the end of the pause of
 -- accepts.
 abbrev pub listener_watched : Table → Acceptor → Bool × Option Instant
-listener_watched table acceptor = (
-  acceptor.awaits_bots && is_accept_due table acceptor.key acceptor.readiness acceptor.resumes_at,
-  acceptor.resumes_at,
-)
+listener_watched table acceptor = (acceptor.awaits_bots && is_bot_due table acceptor, acceptor.resumes_at)
 
--- ---- a wait
+-- ---- a poll
 
--- the listener, whether an accept is awaited and due and until when none is made; then the connects, and the closing
--- streams
-abbrev pub others_watched : {S : Type 0} → Table → Bool × Option Instant → List (Arriving S) → List (ClosingStream S) →
-    List (Bool × Option Instant)
-others_watched table listener arrivals closings =
-    listener ∷ arrivals_watched table arrivals ++ closings_watched table closings
+-- the listener, whether an accept is awaited and due and until when none is made; then the closing streams
+abbrev pub others_watched : {S : Type 0} → Table → Bool × Option Instant → List (ClosingStream S) → List (Bool × Option Instant)
+others_watched table listener closings = listener ∷ closings_watched table closings
 
--- A wait of this time is in time for the listener, for each connect and for each closing stream. It takes no time if an
--- accept is awaited and due, a connect may have a result, or a closing stream may do something at once. It lasts at most
--- until the end of the pause of accepts, and until the deadline of each connect and of each closing stream.
+-- A poll of this time is in time for the listener and for each closing stream. It takes no time if an accept is awaited and
+-- due, or a closing stream may do something at once. It lasts at most until the end of the pause of accepts, and until the
+-- deadline of each closing stream.
 pub record IsInTimeBeside {S : Type 0} (table : Table) (time : Option Duration) (listener : Bool × Option Instant)
-    (arrivals : List (Arriving S)) (closings : List (ClosingStream S)) : Type 0 where
+    (closings : List (ClosingStream S)) : Type 0 where
   pub accepts : IsInTimeFor table.reading time listener.0 listener.1
-  pub connects : All (λ arrival. IsInTimeFor table.reading time (may_connect table arrival.row) arrival.gives_up) arrivals
   pub closes : All (λ closing. IsInTimeFor table.reading time (may_close_on table closing) (closing_due closing)) closings
 
--- each wait that watches these is in time for them
+-- each poll that may block, and watches these, is in time for them
 abbrev pub WaitsAreInTimeBeside : Type 0 → Type 0
 WaitsAreInTimeBeside S = (table : Table) (time : Option Duration) (listener : Bool × Option Instant)
-    (arrivals : List (Arriving S)) (closings : List (ClosingStream S)) →
-    IsWaitTime (watching_all table (others_watched table listener arrivals closings)) time →
-    IsInTimeBeside table time listener arrivals closings
+    (closings : List (ClosingStream S)) →
+    IsPollTime true (watching_all table (others_watched table listener closings)) time →
+    IsInTimeBeside table time listener closings

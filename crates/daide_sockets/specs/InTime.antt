@@ -1,17 +1,17 @@
--- A wait ends in time for all that it watches. (own)
-use Rattle.std.specs.Prelude.{◌≡◌, ◌≤◌, ℕ, ◌-◌, Bool, true, Option, Some, None, List, [], ◌∷◌, All}
+-- A poll that may block ends in time for all that it watches. (own)
+use Rattle.std.specs.Prelude.{◌≡◌, ◌≤◌, ℕ, ◌-◌, Bool, true, false, Option, Some, None, List, [], ◌∷◌, All}
 use Rattle.std.specs.Duration.{as_nanos}
 use Rattle.std.specs.Time.{instant_nanos}
 use Rattle.std.specs.declared.time.Duration.{Duration}
 use Rattle.std.specs.declared.time.Instant.{Instant}
-use Rattle.daide_sockets.specs.Table.{Table, IsNoTime, IsWaitTime, watching}
+use Rattle.daide_sockets.specs.Table.{Table, IsNoTime, IsPollTime, watching}
 
 -- a time of at most this many nanoseconds
 abbrev pub IsAtMost : Option Duration → ℕ → Type 0
 IsAtMost None nanos = ⊥
 IsAtMost (Some time) nanos = as_nanos time ≤ nanos
 
--- A wait of this time is in time for a session that it watches with this nearest deadline, and with work or without it: it
+-- A poll of this time is in time for something that it watches with this nearest deadline, and with work or without it: it
 -- lasts at most until the deadline, and takes no time if there is work. Others may have been watched before it and after it.
 pub record IsInTimeFor (reading : Option Instant) (time : Option Duration) (has_work : Bool) (due : Option Instant) :
     Type 0 where
@@ -19,12 +19,13 @@ pub record IsInTimeFor (reading : Option Instant) (time : Option Duration) (has_
       IsAtMost time (instant_nanos moment - instant_nanos now)
   pub work : has_work ≡ true → IsNoTime time
 
--- the sessions that are watched, each with work or without it, and with its nearest deadline
+-- those that are watched, each with work or without it, and with its nearest deadline
 abbrev pub watching_all : Table → List (Bool × Option Instant) → Table
 watching_all table [] = table
-watching_all table (session ∷ sessions) = watching_all (watching table session.0 session.1) sessions
+watching_all table (one ∷ others) = watching_all (watching table one.0 one.1) others
 
--- each wait is in time for each session that it watches
+-- Each poll that may block is in time for each of those that it watches, and for the deadlines of the places.
 abbrev pub WaitsAreInTime : Type 0
 WaitsAreInTime = (table : Table) (watched : List (Bool × Option Instant)) (time : Option Duration) →
-    IsWaitTime (watching_all table watched) time → All (λ session. IsInTimeFor table.reading time session.0 session.1) watched
+    IsPollTime true (watching_all table watched) time →
+    All (λ one. IsInTimeFor table.reading time one.0 one.1) watched × IsInTimeFor table.reading time false table.due

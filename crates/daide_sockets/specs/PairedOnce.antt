@@ -1,10 +1,9 @@
 -- Each session gets its ports once. (own)
 use Rattle.std.specs.Prelude.{◌≡◌, ◌≤◌, ℕ, ◌+◌, nat_eq, List, [], ◌∷◌, Option, if◌then◌else◌}
-use Rattle.daide_io.specs.System.{SystemCall, Begins, Shows, ReportsNews, BeginsTurn, Watches, Accepts, Connects}
-use Rattle.daide_io.specs.System.{Retires, Notifies, Waits, TransitsBy}
+use Rattle.daide_io.specs.System.{SystemCall, Polls, Shows, Accepts, Connects, BeginsTurn, Rests, Retires, Notifies, TransitsBy}
 use Rattle.daide_io.specs.declared.system.Connect.TheVariants.{Ready, Failed, Pending}
 use Rattle.daide_io.specs.Streams.{StreamCall}
-use Rattle.daide_sockets.specs.Pairing.{Paired, RunSockets, Transits}
+use Rattle.daide_sockets.specs.Pairing.{Paired, RunSockets, Transits, pending_in}
 
 -- 1 if two numbers are the same, else 0
 abbrev pub one_if_same : ℕ → ℕ → ℕ
@@ -13,22 +12,20 @@ one_if_same one other = if nat_eq one other then 1 else 0
 -- how often ports of the session with this number were delivered
 abbrev pub handed : {P S : Type 0} → (P → Paired S) → ℕ → List (SystemCall P) → ℕ
 handed pair n [] = 0
-handed pair n (Connects (Ready ports) ∷ answers) = one_if_same (pair ports).number n + handed pair n answers
-handed pair n (Connects Failed ∷ answers) = handed pair n answers
-handed pair n (Connects Pending ∷ answers) = handed pair n answers
-handed pair n (Begins orders ∷ answers) = handed pair n answers
+handed pair n (Connects place (Ready ports) ∷ answers) = one_if_same (pair ports).number n + handed pair n answers
+handed pair n (Connects place Failed ∷ answers) = handed pair n answers
+handed pair n (Connects place Pending ∷ answers) = handed pair n answers
+handed pair n (Polls may_block woken orders ∷ answers) = handed pair n answers
 handed pair n (Shows ports status ∷ answers) = handed pair n answers
-handed pair n (ReportsNews ports news ∷ answers) = handed pair n answers
-handed pair n (BeginsTurn before after ∷ answers) = handed pair n answers
-handed pair n (Watches ports ∷ answers) = handed pair n answers
-handed pair n (Accepts came ∷ answers) = handed pair n answers
-handed pair n (Retires ports end ∷ answers) = handed pair n answers
+handed pair n (Accepts place came ∷ answers) = handed pair n answers
+handed pair n (BeginsTurn place before after ∷ answers) = handed pair n answers
+handed pair n (Rests place ports rests ∷ answers) = handed pair n answers
+handed pair n (Retires place ports end ∷ answers) = handed pair n answers
 handed pair n (Notifies notice ∷ answers) = handed pair n answers
-handed pair n (Waits ∷ answers) = handed pair n answers
 
 -- Sockets of a run with no bot yet: by any trace of system calls, no session gets its ports twice.
 abbrev pub SessionsComeOnce : (P : Type 0) → {S : Type 0} → (S → Option (List ℕ)) → (S → Option (List ℕ)) →
     (S → Option (List StreamCall)) → Type 0
 SessionsComeOnce P {S} to_give taken calls = (pair : P → Paired S) (old new : RunSockets S) (answers : List (SystemCall P))
-    (n : ℕ) → old.came ≡ 0 → old.arrivals ≡ [] → TransitsBy (Transits to_give taken calls pair) old answers new →
+    (n : ℕ) → old.came ≡ 0 → pending_in old.arrivals ≡ 0 → TransitsBy (Transits to_give taken calls pair) old answers new →
     handed pair n answers ≤ 1

@@ -1,6 +1,6 @@
 -- The table of a run: what polls reported of its sockets, the deadlines of its places, and the time of a poll. (own)
-use Rattle.std.specs.Prelude.{◌≡◌, ℕ, ◌+◌, ◌-◌, ◌*◌, Bool, true, false, not, ◌&&◌, ◌||◌, List, [], ◌∷◌}
-use Rattle.std.specs.Prelude.{Option, Some, None, slice_get, slice_set}
+use Rattle.std.specs.Prelude.{◌≡◌, ℕ, ◌+◌, ◌-◌, ◌*◌, ◌/◌, ◌<◌, ◌≤◌, Bool, true, false, not, ◌&&◌, ◌||◌, List, [], ◌∷◌, length}
+use Rattle.std.specs.Prelude.{Option, Some, None, nat_lt, if◌then◌else◌, replicate, slice_get, slice_set}
 use Rattle.std.specs.Duration.{as_nanos}
 use Rattle.std.specs.Time.{instant_nanos}
 use Rattle.std.specs.declared.time.Duration.{Duration}
@@ -9,13 +9,11 @@ use Rattle.daide_frame.specs.declared.side.Side.{Side}
 use Rattle.daide_frame.specs.declared.side.Side.TheVariants.{Bot, Server}
 use Rattle.daide_buffered_io.specs.declared.readiness.Readiness.{Readiness}
 use Rattle.daide_io.specs.declared.network.SocketEvent.{SocketEvent}
+use Rattle.daide_sockets.specs.declared.table.Row.{Row}
 use Rattle.daide_io.specs.Deadline.{earlier, IsNotBefore}
+use Rattle.daide_sockets.specs.Times.{is_past}
 use Rattle.daide_io.specs.Network.{NetworkCall, Polls, ReadsClock}
-
--- One row: whether a closing socket has it, and what polls reported of its socket since it last took the report.
-pub record Row : Type 0 where
-  pub is_taken : Bool
-  pub report : Readiness
+use Rattle.daide_io.specs.ReadyQueue.{is_among}
 
 -- The last reading of the clock; the deadline of each place as it last came to rest, and a moment before which none of them
 -- is. Of what the next poll watches beside the places, whether something may be done at once, and the nearest deadline. The
@@ -83,6 +81,43 @@ abbrev pub without_report : Table → ℕ → Table
 without_report table key =
     record table { rows = changed table.rows key (record (row_at table.rows key) { report = no_report }) }
 
+-- ---- the rows of closing sockets
+
+-- The key of the first row of a closing socket. Before it are the two rows of each place, and those of two listeners and
+-- of four control connections.
+abbrev pub first_closing : Table → ℕ
+first_closing table = 2 * length table.deadlines + 6
+
+-- the key of the listener for bots
+abbrev pub listener_key : Table → ℕ
+listener_key table = 2 * length table.deadlines
+
+-- the key of the listener for control connections
+abbrev pub control_key : Table → ℕ
+control_key table = 2 * length table.deadlines + 1
+
+-- the key of the control connection with this number, from 0 to 3
+abbrev pub control_connection_key : Table → ℕ → ℕ
+control_connection_key table number = 2 * length table.deadlines + 2 + number
+
+-- the row of a closing socket of which nothing is known
+abbrev pub taken_row : Row
+taken_row = record free_row { is_taken = true }
+
+-- no closing socket has this row of them
+pub record IsFreeRow (table : Table) (key : ℕ) : Type 0 where
+  pub first : first_closing table ≤ key
+  pub last : key < length table.rows
+  pub free : (row_at table.rows key).is_taken ≡ false
+
+-- each row of closing sockets is taken
+abbrev pub IsFull : Table → Type 0
+IsFull table = (key : ℕ) → IsFreeRow table key → ⊥
+
+-- a closing socket took a free row, under its key, and no other changed
+abbrev pub TakesRow : Table → ℕ → Table → Type 0
+TakesRow old key new = IsFreeRow old key × (new ≡ record old { rows = changed old.rows key taken_row })
+
 -- ---- one place
 
 -- the key of the row of the bot at a place, or of the server
@@ -98,14 +133,39 @@ deadline_in (Some due) = due
 abbrev pub deadline_at : Table → ℕ → Option Instant
 deadline_at table place = deadline_in (slice_get table.deadlines place)
 
+-- none of these deadlines is before a moment
+abbrev pub AreBounded : Option Instant → List (Option Instant) → Type 0
+AreBounded due deadlines = (place : ℕ) → IsNotBefore due (deadline_in (slice_get deadlines place))
+
 -- no place has a deadline before `due`
 abbrev pub AreDeadlinesBounded : Table → Type 0
-AreDeadlinesBounded table = (place : ℕ) → IsNotBefore table.due (deadline_at table place)
+AreDeadlinesBounded table = AreBounded table.due table.deadlines
+
+-- a new table for this number of places and of closing sockets
+abbrev pub new_table : ℕ → ℕ → Table
+new_table places closing = record {
+  reading = None;
+  deadlines = replicate places None;
+  due = None;
+  watched_work = false;
+  watched_due = None;
+  rows = replicate (2 * places + 6 + closing) free_row;
+}
 
 -- a place rests until this deadline
 abbrev pub resting : Table → ℕ → Option Instant → Table
 resting table place due =
     record table { deadlines = slice_set table.deadlines place due; due = earlier table.due due }
+
+-- the session of a place is over, and has no deadline
+abbrev pub forgotten : Table → ℕ → Table
+forgotten table place = record table { deadlines = slice_set table.deadlines place None }
+
+-- the sessions of all places are over
+pub record ForgetsPlaces (old new : Table) : Type 0 where
+  pub none : (place : ℕ) → deadline_at new place ≡ None
+  pub places : length new.deadlines ≡ length old.deadlines
+  pub same : new ≡ record old { deadlines = new.deadlines; due = None }
 
 -- both sockets of a place take the reports of their rows
 abbrev pub without_reports : Table → ℕ → Table
@@ -148,6 +208,23 @@ pub record PollsOnce {N C : Type 0} (transition : N → NetworkCall C → N → 
   pub polls : transition old (Polls timeout news) polled
   pub reads : transition polled (ReadsClock reading) new
   pub table : after ≡ record before { reading = latest before.reading reading; rows = with_events before.rows news }
+
+-- the places of those events whose key is less than `first`
+abbrev pub event_places : ℕ → List SocketEvent → List ℕ
+event_places first [] = []
+event_places first (event ∷ events) =
+    if nat_lt event.key first then event.key / 2 ∷ event_places first events else event_places first events
+
+-- The places that a poll wakes after it reported these events: each place of which it reported something, and each whose
+-- deadline is past. Any other place keeps its deadline.
+pub record WakesPlaces (news : List SocketEvent) (woken : List ℕ) (old new : Table) : Type 0 where
+  pub reported : (place : ℕ) → is_among place (event_places (2 * length old.deadlines) news) ≡ true →
+      is_among place woken ≡ true
+  pub asleep : (place : ℕ) → is_among place woken ≡ false →
+      (deadline_at new place ≡ deadline_at old place) × (is_past old.reading (deadline_at old place) ≡ false)
+  pub places : length new.deadlines ≡ length old.deadlines
+  pub bounded : AreDeadlinesBounded new
+  pub same : new ≡ record old { deadlines = new.deadlines; due = new.due }
 
 -- ---- the time of a poll
 

@@ -1,6 +1,6 @@
 -- What a session's sockets know without a call of the network, and how the calls of its ports change that. What each call
 -- of a system keeps of the places. (own)
-use Rattle.std.specs.Prelude.{◌≡◌, ◌⊎◌, ℕ, ◌<◌, ◌==◌, ◌||◌, Bool, true, false, List, [], ◌∷◌, length, Option, All}
+use Rattle.std.specs.Prelude.{◌≡◌, ◌⊎◌, ℕ, ◌<◌, ◌≤◌, ◌==◌, ◌||◌, Bool, true, false, List, [], ◌∷◌, length, Option, All}
 use Rattle.std.specs.declared.time.Duration.{Duration}
 use Rattle.std.specs.declared.time.Instant.{Instant}
 use Rattle.daide_frame.specs.declared.side.Side.{Side}
@@ -27,7 +27,7 @@ use Rattle.daide_sockets.specs.Sockets.{has_socket_work, next_deadline}
 use Rattle.daide_sockets.specs.Times.{is_past}
 use Rattle.daide_sockets.specs.InTime.{watching_all}
 use Rattle.daide_sockets.specs.Table.{Table, AreDeadlinesBounded, PollsOnce, IsPollTime, merged, report_at, is_reported_at}
-use Rattle.daide_sockets.specs.Table.{key_of, deadline_at, resting, without_reports}
+use Rattle.daide_sockets.specs.Table.{key_of, listener_key, deadline_at, resting, without_reports}
 
 -- Nothing was read from a socket. What is known of reads is unchanged. A socket that is not writable stays so, one that is
 -- writable stays so but for a write that its stream did not take whole, and what must be tried again stays so until the
@@ -162,9 +162,21 @@ pub record TakesReports {S : Type 0} (calls : S → Option (List StreamCall)) (o
 
 -- ---- a poll
 
+-- The network is polled once, for this time, and the places are woken of which something was reported, or whose deadline is
+-- past. Any other place keeps its reports and its deadline, which is not past.
+pub record PollsPlaces {N C : Type 0} (transition : N → NetworkCall C → N → Type 0) (time : Option Duration)
+    (woken : List ℕ) (old : N) (before : Table) (new : N) (after : Table) : Type 0 where
+  pub reported : Table
+  pub polls : PollsOnce transition time old before new reported
+  pub asleep : (place : ℕ) → place < length before.deadlines → is_among place woken ≡ false →
+      KeepsPlace before place after × (is_past after.reading (deadline_at after place) ≡ false)
+  pub places : length after.deadlines ≡ length before.deadlines
+  pub bounded : AreDeadlinesBounded after
+  pub same : after ≡ record reported { deadlines = after.deadlines; due = after.due }
+
 -- The network is polled once, for the time of a poll that watches these beside the places, each with work or without it,
--- and with its nearest deadline. All that was reported of the sockets of a place is in its rows. A place that is not woken
--- keeps its reports and its deadline, and its deadline is not past.
+-- and with its nearest deadline. All that was reported of the sockets of places, and of the listener, is in their rows. A
+-- place that is not woken keeps its reports and its deadline, and its deadline is not past.
 pub record PollsForPlaces {N C : Type 0} (transition : N → NetworkCall C → N → Type 0) (others : List (Bool × Option Instant))
     (may_block : Bool) (woken : List ℕ) (old : N) (before : Table) (new : N) (after : Table) : Type 0 where
   pub time : Option Duration
@@ -174,8 +186,7 @@ pub record PollsForPlaces {N C : Type 0} (transition : N → NetworkCall C → N
   pub polls : PollsOnce transition time old before polled reported
   pub goes_on : GoesUnpolled transition polled new
   pub reading : after.reading ≡ reported.reading
-  pub reports : (place : ℕ) → place < length before.deadlines → (side : Side) →
-      report_at after (key_of place side) ≡ report_at reported (key_of place side)
+  pub reports : (key : ℕ) → key ≤ listener_key before → report_at after key ≡ report_at reported key
   pub asleep : (place : ℕ) → place < length before.deadlines → is_among place woken ≡ false →
       KeepsPlace before place after × (is_past after.reading (deadline_at after place) ≡ false)
 

@@ -6,6 +6,7 @@ use daide_buffered_io::pool::Pool;
 use daide_gate::settings::{Settings, read_settings};
 use daide_gate::system::{Connect, System};
 use daide_io::network::{ConnectStatus, Network};
+use daide_io::ready_queue::ReadyQueue;
 use daide_sockets::admission::Acceptor;
 use daide_sockets::connection::Connection;
 use daide_sockets::os_network::{NetworkError, OsNetwork};
@@ -37,13 +38,13 @@ fn check_acceptor<'w>(
     poller: &mut Poller<OsNetwork<'w, HostRuntime>>,
     acceptor: &mut Acceptor,
 ) -> Result<(), Fail> {
-    poller.wait();
+    poller.poll(true);
     acceptor.pause(poller.table.after(Duration::ZERO), ErrorKind::Other);
     holds(acceptor.accept(poller).is_none(), "none is made")?;
     acceptor.watch(&mut poller.table);
     let end = poller.table.after(Duration::from_millis(100));
     same(&poller.table.watched(), &(false, end), &"a pause of 100 ms")?;
-    poller.wait();
+    poller.poll(true);
     holds(acceptor.accept(poller).is_some(), "the bot that came")?;
     poller.table.unwatch();
     acceptor.watch(&mut poller.table);
@@ -54,12 +55,12 @@ fn check_acceptor<'w>(
     )
 }
 
-/// The same for a listener, in the only row of a table.
+/// The same for a listener.
 fn check_listener(rt: &HostRuntime, listener: daide_sockets::TcpListener) -> Result<(), Fail> {
     let Ok(network) = network_of(rt, listener) else {
         return Err(Fail::new("no network"));
     };
-    let mut poller = Poller::new(rt.alloc(), network, SocketTable::new(rt.alloc(), 1)?)?;
+    let mut poller = Poller::new(rt.alloc(), network, SocketTable::new(rt.alloc(), 1, 1)?)?;
     match Acceptor::new(&mut poller) {
         Some(mut acceptor) => check_acceptor(&mut poller, &mut acceptor),
         None => Err(Fail::new("no row")),
@@ -98,22 +99,25 @@ fn full_listener(rt: &HostRuntime) -> Result<daide_sockets::TcpListener, Fail> {
 const MOST_WAITS: usize = 1_000;
 
 /// Returns the ports of the first bot, once it is connected to the server.
-fn first_ports<'w>(system: &mut HostSockets<'w, '_>) -> Option<SocketPorts<'w, Connection>> {
+fn first_ports<'w>(
+    alloc: Global,
+    system: &mut HostSockets<'w, '_>,
+) -> Option<SocketPorts<'w, Connection>> {
+    let mut ready = ReadyQueue::new(alloc, 1).ok()?;
     let mut came = false;
     for _ in 0..MOST_WAITS {
-        system.begin_round();
-        came = came || system.accept();
+        system.poll(true, &mut ready);
+        came = came || system.accept(0);
         if came {
-            if let Connect::Ready(ports) = system.connected() {
+            if let Connect::Ready(ports) = system.connected(0) {
                 return Some(ports);
             }
         }
-        system.wait();
     }
     None
 }
 
-/// Returns a run's sockets with this listener and these server addresses, in a table of three rows.
+/// Returns a run's sockets with this listener and these server addresses.
 fn sockets_of<'w, 't>(
     rt: &'w HostRuntime,
     pool: &'w Pool,
@@ -123,7 +127,7 @@ fn sockets_of<'w, 't>(
 ) -> Option<HostSockets<'w, 't>> {
     let time = Duration::from_secs(5);
     let network = network_of(rt, listener).ok()?;
-    let table = SocketTable::new(rt.alloc(), 3).ok()?;
+    let table = SocketTable::new(rt.alloc(), 1, 2).ok()?;
     let ground = (network, servers, table, pool);
     Sockets::new(rt.alloc(), ground, settings, time, told)
 }
@@ -157,8 +161,8 @@ fn are_undelayed(ports: SocketPorts<'_, Connection>) -> bool {
 }
 
 /// The same for the first bot.
-fn are_first_undelayed(system: &mut HostSockets<'_, '_>) -> bool {
-    match first_ports(system) {
+fn are_first_undelayed(alloc: Global, system: &mut HostSockets<'_, '_>) -> bool {
+    match first_ports(alloc, system) {
         Some(ports) => are_undelayed(ports),
         None => false,
     }
@@ -170,7 +174,7 @@ fn sends_at_once(rt: &HostRuntime, pool: &Pool, servers: &[SocketAddr]) -> Resul
     let (listener, _bot) = door_with_bot(rt)?;
     let mut told = Vec::new(rt.alloc());
     match sockets_of(rt, pool, (listener, servers), &settings, &mut told) {
-        Some(mut system) => Ok(are_first_undelayed(&mut system)),
+        Some(mut system) => Ok(are_first_undelayed(rt.alloc(), &mut system)),
         None => Ok(false),
     }
 }

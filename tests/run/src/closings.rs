@@ -2,7 +2,7 @@
 //!
 //! The list owns its sockets, so the tests see only their rows of the table.
 
-use crate::wires::{READY, StillPoller, Wire, broken, row_of, still_poller};
+use crate::wires::{READY, ROWS, StillPoller, Wire, broken, still_poller};
 use daide_buffered_io::pool::Pool;
 use daide_sockets::lingering_close::Closings;
 use daide_sockets::socket::Socket;
@@ -31,8 +31,8 @@ const CLOSES: &[Closes] = &[
 
 /// Advances the closing sockets, with the socket of this row ready.
 fn goes_on(poller: &mut StillPoller, closings: &mut Closings<'_, Wire>, key: usize) -> Closes {
-    poller.network.ready[key % 3] = true;
-    poller.wait();
+    poller.network.ready[key % ROWS] = true;
+    poller.poll(true);
     closings.advance(&mut poller.table);
     poller.table.unwatch();
     closings.watch(&mut poller.table);
@@ -55,27 +55,23 @@ fn wrong_step(
     None
 }
 
+/// The keys of the first and of the second closing socket.
+const KEYS: (usize, usize) = (8, 9);
+
 /// Returns a socket with three bytes in its write buffer.
-fn holding<'w>(
-    poller: &mut StillPoller,
-    pool: &'w Pool,
-    wire: Wire,
-) -> Result<Socket<'w, Wire>, Fail> {
-    let key = row_of(&mut poller.table)?;
-    let mut socket = Socket::over(pool, wire, key);
+fn holding(pool: &Pool, wire: Wire) -> Socket<'_, Wire> {
+    let mut socket = Socket::over(pool, wire, 0);
     socket.note_report(READY);
     socket.put(None, b"abc");
-    Ok(socket)
+    socket
 }
 
 /// Closes one socket, step by step.
 fn closes_one(rt: &HostRuntime, pool: &Pool) -> Result<(), Fail> {
     let mut poller = still_poller(rt)?;
     let mut closings = Closings::new(rt.alloc(), None)?;
-    let socket = holding(&mut poller, pool, Wire::new(TAKES, 0))?;
-    let key = socket.key;
-    closings.begin(&mut poller.table, socket);
-    let wrong = wrong_step(&mut poller, &mut closings, key, CLOSES);
+    closings.begin(&mut poller, holding(pool, Wire::new(TAKES, 0)));
+    let wrong = wrong_step(&mut poller, &mut closings, KEYS.0, CLOSES);
     same(&wrong, &None, &"a step")
 }
 
@@ -96,7 +92,7 @@ fn closes_second(
     (first, second): (usize, usize),
 ) -> (bool, bool) {
     for _ in 0..4 {
-        poller.network.ready[first % 3] = true;
+        poller.network.ready[first % ROWS] = true;
         goes_on(poller, closings, second);
     }
     let (may_go_on, due) = poller.table.watched();
@@ -112,12 +108,9 @@ fn closes_second(
 fn closes_two(rt: &HostRuntime, pool: &Pool) -> Result<(), Fail> {
     let mut poller = still_poller(rt)?;
     let mut closings = Closings::new(rt.alloc(), None)?;
-    let first = holding(&mut poller, pool, Wire::new(LATE, 0))?;
-    let second = holding(&mut poller, pool, broken())?;
-    let keys = (first.key, second.key);
-    closings.begin(&mut poller.table, first);
-    closings.begin(&mut poller.table, second);
-    let told = closes_second(&mut poller, &mut closings, keys);
+    closings.begin(&mut poller, holding(pool, Wire::new(LATE, 0)));
+    closings.begin(&mut poller, holding(pool, broken()));
+    let told = closes_second(&mut poller, &mut closings, KEYS);
     holds(told == (true, true), "the second, then the first")
 }
 
@@ -142,10 +135,8 @@ const STALLS: &[Closes] = &[
 fn closes_stalled(rt: &HostRuntime, pool: &Pool) -> Result<(), Fail> {
     let mut poller = still_poller(rt)?;
     let mut closings = Closings::new(rt.alloc(), Some(Duration::from_secs(1)))?;
-    let socket = holding(&mut poller, pool, Wire::new(&[], 0))?;
-    let key = socket.key;
-    closings.begin(&mut poller.table, socket);
-    let wrong = wrong_step(&mut poller, &mut closings, key, STALLS);
+    closings.begin(&mut poller, holding(pool, Wire::new(&[], 0)));
+    let wrong = wrong_step(&mut poller, &mut closings, KEYS.0, STALLS);
     same(&wrong, &None, &"a step")
 }
 

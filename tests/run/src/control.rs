@@ -8,6 +8,7 @@ use daide_frame::side::Side;
 use daide_io::duplex::Duplex;
 use daide_io::network::{ConnectStatus, Network, SocketEvent};
 use daide_io::ports::{ClockEvent, Ports, Pull};
+use daide_io::ready_queue::ReadyQueue;
 use daide_io::system::{Connect, Orders, System};
 use daide_settings::{Settings, read_settings};
 use daide_sockets::ports::SocketPorts;
@@ -222,6 +223,10 @@ impl<'n> Network for Door<'n> {
         true
     }
 
+    fn refollow(&mut self, _connection: &mut Line<'n>, _key: usize) -> bool {
+        true
+    }
+
     fn connect_status(&mut self, _connection: &Line<'n>) -> ConnectStatus {
         ConnectStatus::Connected
     }
@@ -235,11 +240,14 @@ impl<'n> Network for Door<'n> {
 type DoorSockets<'w, 'n, 't> = Sockets<'w, Door<'n>, &'t mut Vec<u8>>;
 
 /// Makes rounds without a session, and returns the orders of the last one.
-fn orders_after(sockets: &mut DoorSockets<'_, '_, '_>, rounds: usize) -> Orders {
+fn orders_after(
+    sockets: &mut DoorSockets<'_, '_, '_>,
+    ready: &mut ReadyQueue,
+    rounds: usize,
+) -> Orders {
     let mut orders = Orders::NONE;
     for _round in 0..rounds {
-        orders = sockets.begin_round();
-        sockets.wait();
+        orders = sockets.poll(true, ready);
     }
     orders
 }
@@ -356,8 +364,8 @@ const ASKED: &[Asked] = &[
         1,
     ),
     // Two seconds after it was accepted, a connection is closed.
-    (&[SILENT], 500, 5, b"", false, 0),
-    (&[SILENT], 500, 8, b"", false, 1),
+    (&[SILENT], 500, 4, b"", false, 0),
+    (&[SILENT], 500, 5, b"", false, 1),
     (&[(&[Bytes(b"?\n")], 0)], 500, 9, b"", false, 1),
     // Four at once: a fifth waits until one is closed.
     (
@@ -413,7 +421,7 @@ fn sockets_on<'w, 'n, 't>(
     settings: &'w Settings,
     told: &'t mut Vec<u8>,
 ) -> Result<DoorSockets<'w, 'n, 't>, Fail> {
-    let table = SocketTable::new(alloc, ROWS)?;
+    let table = SocketTable::new(alloc, 1, 2)?;
     let ground = (door, server, table, pool);
     match Sockets::new(alloc, ground, settings, Duration::from_secs(5), told) {
         Some(sockets) => Ok(sockets),
@@ -437,7 +445,8 @@ fn is_as_asked(rt: &HostRuntime, settings: &Settings, asked: &Asked) -> Result<b
     let mut told = Vec::new(rt.alloc());
     let ground = (door_of(clients, 0, step, &seen), [].as_slice());
     let mut sockets = sockets_on(rt.alloc(), ground, &pool, settings, &mut told)?;
-    let orders = orders_after(&mut sockets, rounds);
+    let mut ready = ReadyQueue::new(rt.alloc(), 1)?;
+    let orders = orders_after(&mut sockets, &mut ready, rounds);
     Ok(
         orders.stops_accepting == stops
             && seen.is_shut.get() == stops
@@ -458,32 +467,33 @@ fn requests_by_rows(rt: HostRuntime) -> Result<(), Fail> {
 /// Returns the ports of the first bot, once it is connected to the server.
 fn first_ports<'w, 'n>(
     sockets: &mut DoorSockets<'w, 'n, '_>,
+    ready: &mut ReadyQueue,
 ) -> Result<SocketPorts<'w, Line<'n>>, Fail> {
     for _round in 0..9 {
-        sockets.begin_round();
-        let _came = sockets.accept();
-        if let Connect::Ready(ports) = sockets.connected() {
+        sockets.poll(true, ready);
+        let _came = sockets.accept(0);
+        if let Connect::Ready(ports) = sockets.connected(0) {
             return Ok(ports);
         }
-        sockets.wait();
     }
     Err(Fail::new("no ports"))
 }
 
-/// What a turn of ports finds: whether there was news for them before it, the event of the clock, and the result of a
-/// pull of each side.
+/// What a turn of ports finds: whether a poll woke their place before it, the event of the clock, and the result of a pull of
+/// each side.
 type Found = (bool, ClockEvent, Pull, Pull);
 
 /// Makes a turn of ports, and returns what it finds.
 fn turn_of<'w, 'n>(
     sockets: &mut DoorSockets<'w, 'n, '_>,
+    ready: &mut ReadyQueue,
     ports: &mut SocketPorts<'w, Line<'n>>,
 ) -> Found {
-    let news = sockets.has_news(&ports.interest());
-    sockets.begin_turn(ports);
+    let is_woken = ready.next(true) == Some(0);
+    sockets.begin_turn(0, ports);
     let event = ports.clock();
     let bot = ports.pull(Side::Bot, &mut [0; 8]);
-    (news, event, bot, ports.pull(Side::Server, &mut [0; 8]))
+    (is_woken, event, bot, ports.pull(Side::Server, &mut [0; 8]))
 }
 
 /// A client that requests a stop at once.
@@ -492,8 +502,8 @@ const STOPS_NOW: &[Client] = &[(
     99,
 )];
 
-/// After `stop now` a session has news until its next turn, in which the clock returns that a stop is requested. It has
-/// no news and no event after that.
+/// After `stop now` the place of a session is woken, and in its next turn the clock returns that a stop is requested. It is
+/// not woken again, and has no event after that.
 #[test]
 fn session_ends_at_stop_now(rt: HostRuntime) -> Result<(), Fail> {
     let settings = plain_settings(rt.alloc())?;
@@ -503,17 +513,18 @@ fn session_ends_at_stop_now(rt: HostRuntime) -> Result<(), Fail> {
     let server = [SocketAddr::from(([127, 0, 0, 1], 16_714))];
     let ground = (door_of(STOPS_NOW, 1, 0, &seen), server.as_slice());
     let mut sockets = sockets_on(rt.alloc(), ground, &pool, &settings, &mut told)?;
-    let mut ports = first_ports(&mut sockets)?;
+    let mut ready = ReadyQueue::new(rt.alloc(), 1)?;
+    let mut ports = first_ports(&mut sockets, &mut ready)?;
     let idle = (ClockEvent::NoEvent, Pull::Idle, Pull::Idle);
-    let before = turn_of(&mut sockets, &mut ports);
+    let before = turn_of(&mut sockets, &mut ready, &mut ports);
     holds((before.1, before.2, before.3) == idle, "nothing comes")?;
-    let orders = orders_after(&mut sockets, 9);
+    let orders = orders_after(&mut sockets, &mut ready, 9);
     holds(orders.stops_accepting, "the stop is ordered")?;
-    let stopped = turn_of(&mut sockets, &mut ports);
+    let stopped = turn_of(&mut sockets, &mut ready, &mut ports);
     let requested = (true, ClockEvent::StopIsRequested, Pull::Idle, Pull::Idle);
     same(&stopped, &requested, &"requested once")?;
-    let again = turn_of(&mut sockets, &mut ports);
-    same(&again, &(false, idle.0, idle.1, idle.2), &"no news after")
+    let again = turn_of(&mut sockets, &mut ready, &mut ports);
+    same(&again, &(false, idle.0, idle.1, idle.2), &"not woken again")
 }
 
 /// Clients that request nothing: one that is silent, one whose line is too long, one with other bytes, one that ends
@@ -550,13 +561,14 @@ fn hostile_clients_delay_no_session(rt: HostRuntime) -> Result<(), Fail> {
         &settings,
         &mut told,
     )?;
-    let mut ports = first_ports(&mut sockets)?;
-    let turn = turn_of(&mut sockets, &mut ports);
+    let mut ready = ReadyQueue::new(rt.alloc(), 1)?;
+    let mut ports = first_ports(&mut sockets, &mut ready)?;
+    let turn = turn_of(&mut sockets, &mut ready, &mut ports);
     holds(
         (turn.2, turn.3) == (Pull::Idle, Pull::Idle),
         "nothing comes",
     )?;
-    let orders = orders_after(&mut sockets, 400);
+    let orders = orders_after(&mut sockets, &mut ready, 400);
     same(&orders, &Orders::NONE, &"no order")?;
     same(&seen.closed.get(), &MANY, &"each client is closed")
 }

@@ -12,17 +12,17 @@ use std::test::Fail;
 /// The results of two queries of the clock.
 type Events = (ClockEvent, ClockEvent);
 
-/// Returns the ports of a session in the second and the third row, which has nothing to do.
+/// Returns the ports of a session that has nothing to do.
 fn idle_ports(pool: &Pool) -> WirePorts<'_> {
     SocketPorts::new(
+        Socket::over(pool, Wire::new(&[], 0), 0),
         Socket::over(pool, Wire::new(&[], 0), 1),
-        Socket::over(pool, Wire::new(&[], 0), 2),
     )
 }
 
 /// Begins a turn, and returns the results of two queries of the clock in it.
 fn events_in_turn(ports: &mut WirePorts<'_>, table: &mut SocketTable) -> Events {
-    ports.begin_turn(table);
+    ports.begin_turn(0, table);
     (ports.clock(), ports.clock())
 }
 

@@ -21,8 +21,6 @@ mod program;
 #[cfg(test)]
 mod refusals;
 #[cfg(test)]
-mod rows;
-#[cfg(test)]
 mod session_lines;
 #[cfg(test)]
 mod settings;
@@ -30,7 +28,5 @@ mod settings;
 mod stalls;
 #[cfg(test)]
 mod streams;
-#[cfg(test)]
-mod waits;
 #[cfg(test)]
 mod wires;

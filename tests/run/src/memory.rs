@@ -5,7 +5,7 @@
 //! and sent in pieces. The other streams accept each write whole, and their writes are counted.
 
 use crate::frames::{FM, IM, ITS_PRN, OBS, RM, UNCLOSED};
-use crate::wires::{READY, StillPoller, poller_of_two, report_all};
+use crate::wires::{READY, StillPoller, report_all, still_poller};
 use daide_buffered_io::pool::Pool;
 use daide_driver::relaying::{RelayEnd, relay};
 use daide_io::duplex::Duplex;
@@ -157,7 +157,7 @@ fn relay_to_the_end<A: Allocator>(
 ) -> bool {
     for _ in 0..MOST_TURNS {
         report_all(poller);
-        ports.begin_turn(&mut poller.table);
+        ports.begin_turn(0, &mut poller.table);
         if relay(session, ports, 1) == RelayEnd::Closed {
             return true;
         }
@@ -220,7 +220,7 @@ fn is_talked(
 /// Checks a session between the two ends of a conversation until it is closed.
 fn talks(rt: &HostRuntime, talk: &Talk) -> Result<(), Fail> {
     let pool = Pool::new(rt.alloc());
-    let mut poller = poller_of_two(rt)?;
+    let mut poller = still_poller(rt)?;
     let mut session = Session::new(rt.alloc(), CONFIG)?;
     let ports = ports_of(rt.alloc(), &pool, talk);
     let told = is_talked(&mut session, ports, &mut poller, talk);

@@ -19,8 +19,8 @@ const STALL_SECONDS: u64 = 60;
 fn deadlines_of(poller: &mut StillPoller, pool: &Pool) -> (Option<Instant>, [Option<Instant>; 3]) {
     let stall = Duration::from_secs(STALL_SECONDS);
     let sockets = (
+        Socket::over(pool, Wire::new(&[], 0), 0),
         Socket::over(pool, Wire::new(&[], 0), 1),
-        Socket::over(pool, Wire::new(&[], 0), 2),
     );
     let mut ports = SocketPorts::new(sockets.0, sockets.1).of_session(
         1,
@@ -31,13 +31,13 @@ fn deadlines_of(poller: &mut StillPoller, pool: &Pool) -> (Option<Instant>, [Opt
     let mut first = None;
     let mut deadlines = [None; 3];
     for (turn, deadline) in deadlines.iter_mut().enumerate() {
-        poller.wait();
+        poller.poll(true);
         if turn == 0 {
             first = poller.table.after(stall);
         }
-        ports.begin_turn(&mut poller.table);
+        ports.begin_turn(0, &mut poller.table);
         ports.put(Side::Bot, b"abc");
-        *deadline = ports.interest().due();
+        *deadline = ports.due();
     }
     (first, deadlines)
 }

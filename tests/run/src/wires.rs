@@ -94,18 +94,9 @@ pub const READY: Readiness = Readiness {
     reads_on: false,
 };
 
-/// Takes the first free row of a table, and returns its key.
-pub fn row_of(table: &mut SocketTable) -> Result<usize, Fail> {
-    match table.take_row() {
-        Some(key) => Ok(key),
-        None => Err(Fail::new("no row")),
-    }
-}
-
-/// Creates a table for three sockets.
-fn table(rt: &HostRuntime) -> Result<SocketTable, Fail> {
-    Ok(SocketTable::new(rt.alloc(), 3)?)
-}
+/// The rows of a table for one place and two closing sockets: of the place, whose keys are 0 and 1, of two listeners, of four
+/// control connections, and of the closing sockets.
+pub const ROWS: usize = 10;
 
 /// Returns a stream whose writes fail.
 pub fn broken() -> Wire {
@@ -289,7 +280,7 @@ fn does(ports: &mut WirePorts<'_>, poller: &mut StillPoller, step: Step) -> bool
         Turns(count) => {
             report_all(poller);
             for _ in 0..count {
-                ports.begin_turn(&mut poller.table);
+                ports.begin_turn(0, &mut poller.table);
             }
             true
         }
@@ -334,7 +325,7 @@ fn are_written(pool: &Pool, poller: &mut StillPoller) -> Result<(), Fail> {
 
 #[test]
 fn bytes_are_held_and_written_by_rows(rt: HostRuntime) -> Result<(), Fail> {
-    are_written(&Pool::new(rt.alloc()), &mut poller_of_two(&rt)?)
+    are_written(&Pool::new(rt.alloc()), &mut still_poller(&rt)?)
 }
 
 /// A call of one socket: a put, a flush or a pull.
@@ -450,7 +441,7 @@ fn failure_is_told_again(rt: HostRuntime) -> Result<(), Fail> {
 pub struct Still {
     clock: Steps,
     /// The keys of the sockets that the next poll reports as ready.
-    pub ready: [bool; 3],
+    pub ready: [bool; ROWS],
     /// The timeout of the last poll.
     pub timeout: Option<Duration>,
 }
@@ -477,7 +468,7 @@ impl Network for Still {
                 });
             }
         }
-        self.ready = [false; 3];
+        self.ready = [false; ROWS];
     }
 
     fn listen(&mut self, _key: usize) -> bool {
@@ -506,6 +497,10 @@ impl Network for Still {
         true
     }
 
+    fn refollow(&mut self, _connection: &mut Wire, _key: usize) -> bool {
+        true
+    }
+
     fn connect_status(&mut self, _connection: &Wire) -> ConnectStatus {
         ConnectStatus::Failed
     }
@@ -522,24 +517,17 @@ pub type StillPoller = Poller<Still>;
 pub fn still_poller(rt: &HostRuntime) -> Result<StillPoller, Fail> {
     let network = Still {
         clock: Steps(Cell::new(0)),
-        ready: [false; 3],
+        ready: [false; ROWS],
         timeout: None,
     };
-    Ok(Poller::new(rt.alloc(), network, table(rt)?)?)
-}
-
-/// Returns such a poller, with rows for two sockets, whose keys are 0 and 1.
-pub fn poller_of_two(rt: &HostRuntime) -> Result<StillPoller, Fail> {
-    let mut poller = still_poller(rt)?;
-    row_of(&mut poller.table)?;
-    row_of(&mut poller.table)?;
-    Ok(poller)
+    let table = SocketTable::new(rt.alloc(), 1, 2)?;
+    Ok(Poller::new(rt.alloc(), network, table)?)
 }
 
 /// Polls, and reports every socket as ready.
 pub fn report_all(poller: &mut StillPoller) {
-    poller.network.ready = [true; 3];
-    poller.wait();
+    poller.network.ready = [true; ROWS];
+    poller.poll(true);
 }
 
 /// The milliseconds that pass between two reads of the clock.

@@ -1,3 +1,4 @@
+use Rattle.daide_sockets.specs.Rows.{AreRowsOf, closing_keys}
 use Rattle.daide_run.proofs.RunLemmas.{run_ends}
 use Rattle.daide_run.proofs.running.run_plain.Goals as goal
 
@@ -8,5 +9,6 @@ returns g c =
       came = system.acceptor.came;
       arrivals = system.arrivals.items;
       closing = system.closings;
-    }) _ (λ old answer new moved. moved.0)
-    c.args.settings.now _ _ _ _ c.run_on.result c.run_on.ensures c.requires
+    }) _ (λ system. AreRowsOf system.poller.table (closing_keys system.closings.streams))
+    (λ old answer new holds moved. let all = moved holds in (all.0, all.1))
+    c.args.settings.now _ _ _ _ c.run_on.result c.run_on.ensures c.requires.none c.requires.rows

@@ -1,12 +1,19 @@
-use Rattle.std.proofs.Common.{◌+◌, ap, arith, refl, inl, inr}
-use Rattle.daide_sockets.specs.Table.{Table}
+use Rattle.std.proofs.Common.{ℕ, ◌+◌, List, length, ap, arith, refl, inl, inr, ◌∙◌}
+use Rattle.daide_sockets.specs.Rows.{AreRowsOf, taken_at}
+use Rattle.daide_sockets.specs.Table.{Table, ForgetsPlaces}
 use Rattle.daide_sockets.proofs.LingeringLemmas.{one_round_more}
 use Rattle.daide_sockets.proofs.FinishingLemmas.{one_wait_more}
-use Rattle.daide_sockets.proofs.RowLemmas.{handed_both, keeps_rows, none_handed, rests_keep}
+use Rattle.daide_sockets.proofs.FinishingLemmas.{waits_due, waits_hold}
+use Rattle.daide_sockets.proofs.RowLemmas.{held_alike}
 use Rattle.daide_sockets.proofs.lingering_close.Closings.finish.Goals as goal
 
 pub loop-round-init : goal.loop-round-init
-loop-round-init g c = record { rounds = refl; readings = refl; rows = none_handed _ _ _ (λ key. refl) }
+loop-round-init g c = record {
+  rounds = refl;
+  readings = refl;
+  rows = λ held. held;
+  none = ap (λ (t : Table). t.due) c.forget_places.ensures.same;
+}
 
 pub returns-then-is_empty-clause-rounds : goal.returns-then-is_empty-clause-rounds
 returns-then-is_empty-clause-rounds g c = (
@@ -21,7 +28,7 @@ returns-then-is_empty-clause-readings g c = record {
   rounds = c.loop-round._round;
   first = _;
   last = _;
-  begins = (refl, ap (λ (t : Table). t.reading) c.unwatch.ensures, refl);
+  begins = (refl, ap (λ (t : Table). t.reading) c.forget_places.ensures.same, refl);
   made = c.loop-round.invariant.readings;
   ends = inl (c.advance.ensures.looks, c.is_empty.ensures.none c.if-is_empty.true);
 }
@@ -40,22 +47,21 @@ returns-clause-readings g c =
       rounds = c.loop-round._round;
       first = _;
       last = _;
-      begins = (refl, ap (λ (t : Table). t.reading) c.unwatch.ensures, refl);
+      begins = (refl, ap (λ (t : Table). t.reading) c.forget_places.ensures.same, refl);
       made = c.loop-round.invariant.readings;
       ends = inr (omega (arith, past, few), refl);
     }
 
+forgets_hold : (old new : Table) (keys : List ℕ) → ForgetsPlaces old new → AreRowsOf old keys → AreRowsOf new keys
+forgets_hold old new keys h =
+    held_alike old new keys (λ key. ap (λ (t : Table). taken_at t key) h.same) (ap (λ (t : Table). length t.rows) h.same) h.places
+
 pub returns-then-is_empty-clause-rows : goal.returns-then-is_empty-clause-rows
-returns-then-is_empty-clause-rows g c =
-    handed_both _ _ _ _ _ _ (none_handed c.args.poller.now.table c.unwatch.new.self _
-    (keeps_rows c.args.poller.now.table c.unwatch.new.self (ap (λ (t : Table). t.rows) c.unwatch.ensures)))
-    (handed_both _ _ _ _ _ _ c.loop-round.invariant.rows c.advance.ensures.rows)
+returns-then-is_empty-clause-rows g c = λ held.
+    c.advance.ensures.rows.taken (c.loop-round.invariant.rows (forgets_hold _ _ _ c.forget_places.ensures held))
 
 pub returns-clause-rows : goal.returns-clause-rows
-returns-clause-rows g c =
-    handed_both _ _ _ _ _ _ (none_handed c.args.poller.now.table c.unwatch.new.self _
-    (keeps_rows c.args.poller.now.table c.unwatch.new.self (ap (λ (t : Table). t.rows) c.unwatch.ensures)))
-    c.loop-round.invariant.rows
+returns-clause-rows g c = λ held. c.loop-round.invariant.rows (forgets_hold _ _ _ c.forget_places.ensures held)
 
 pub loop-round-preserved : goal.loop-round-preserved
 loop-round-preserved g c = record {
@@ -66,10 +72,12 @@ loop-round-preserved g c = record {
       (record {
         table = _;
         clock = c.advance.ensures.clock;
+        none = ap (λ (t : Table). t.due) c.advance.ensures.rows.same ∙ c.loop-round.invariant.none;
         advances = c.advance.ensures.looks;
-        rests = c.rest.ensures;
+        waits = c.rest.ensures;
       });
-  rows = handed_both _ _ _ _ _ _ c.loop-round.invariant.rows
-      (handed_both _ _ _ _ _ _ c.advance.ensures.rows
-      (none_handed _ _ _ (rests_keep g.N.Network.transition _ _ _ _ _ c.rest.ensures)));
+  rows = λ held. waits_hold g.N.Network.transition _ _ _ _ _ c.rest.ensures _
+      (c.advance.ensures.rows.taken (c.loop-round.invariant.rows held));
+  none = waits_due g.N.Network.transition _ _ _ _ _ c.rest.ensures
+      ∙ ap (λ (t : Table). t.due) c.advance.ensures.rows.same ∙ c.loop-round.invariant.none;
 }

@@ -1,6 +1,7 @@
-use Rattle.daide_sockets.proofs.BesideLemmas.{watched_waits}
+use Rattle.daide_sockets.proofs.FinishingLemmas.{waited}
 use Rattle.daide_sockets.proofs.lingering_close.Closings.rest.Goals as goal
 
 pub returns : goal.returns
 returns g c =
-    watched_waits g.N.Network.transition _ _ _ _ _ _ _ c.watch.ensures c.wait.ensures c.unwatch.ensures
+    let poll = c.poll.ensures in
+    waited g.N.Network.transition c.args.self.now.streams poll.0 _ _ _ _ _ _ c.unwatch.ensures c.watch.ensures poll.1 poll.2

@@ -1,5 +1,4 @@
 use Rattle.daide_buffered_io.proofs.StreamLemmas.{begun_moves}
-use Rattle.daide_sockets.proofs.WatchLemmas.{keeps_begun}
 use Rattle.daide_sockets.proofs.ports.SocketPorts.begin_turn.Goals as goal
 
 pub returns-clause-begins : goal.returns-clause-begins
@@ -12,6 +11,3 @@ returns-clause-begins g c =
     (rw c.count_turn.ensures.bot at (rw bot at c.begin_both.ensures.bot_unread))
     (rw c.count_turn.ensures.server at (rw server at c.begin_both.ensures.server))
     (rw c.count_turn.ensures.server at (rw server at c.begin_both.ensures.server_unread)))
-
-pub returns-clause-watched : goal.returns-clause-watched
-returns-clause-watched g c = keeps_begun _ _ _ _ _ c.note_turn.ensures.same c.take_reports.ensures.table

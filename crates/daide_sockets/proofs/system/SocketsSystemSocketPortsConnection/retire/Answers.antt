@@ -1,16 +1,25 @@
-use Rattle.std.proofs.Common.{[], ◌∷◌, refl}
-use Rattle.daide_sockets.proofs.RunRowLemmas.{closing_hands}
+use Rattle.std.proofs.Common.{refl}
+use Rattle.daide_sockets.proofs.KeptRowLemmas.{retire_beside, retire_holds, retire_others, retire_places}
+use Rattle.daide_sockets.proofs.UnpolledLemmas.{both, follows_unpolled}
 use Rattle.daide_sockets.proofs.system.SocketsSystemSocketPortsConnection.retire.Goals as goal
 
 pub returns-clause-transition : goal.returns-clause-transition
 returns-clause-transition g c =
-    let closes = rw c.tell_of_session.ensures at c.begin_both.ensures.closes in
-    let rows = rw c.tell_of_session.ensures at c.begin_both.ensures.rows in
-    rw c.tell_of_session.ensures (
+    let closes = rw (c.forget.ensures, c.tell_of_session.ensures) at c.begin_both.ensures.closes in
+    let rows = rw (c.forget.ensures, c.tell_of_session.ensures) at c.begin_both.ensures.rows in
+    let calls = rw c.tell_of_session.ensures at c.begin_both.ensures.calls in
+    rw c.tell_of_session.ensures (λ held. (
+      retire_holds _ _ c.args.place _ _ rows held,
       ((closes.0, (_, closes.1), (_, closes.2)), refl, refl),
-      tt,
+      (
+        record { places = retire_places _ _ c.args.place _ _ rows held; bounded = c.is_bounded.ensures },
+        (
+          both g.N.Network.transition _ _ _ (follows_unpolled g.N.Network.transition _ _ _ calls.1)
+              (follows_unpolled g.N.Network.transition _ _ _ calls.2),
+          retire_others _ _ c.args.place _ _ rows held,
+        ),
+      ),
       ((refl, refl), refl),
       closes,
-      closing_hands _ _ (c.args.ports.bot.key ∷ c.args.ports.server.key ∷ []) c.args.self.now.acceptor
-          c.args.self.now.acceptor _ _ _ _ refl rows,
-    )
+      λ lt. retire_beside _ _ c.args.place _ _ rows held lt,
+    ))

@@ -1,0 +1,70 @@
+-- The result of a connect: its place rests, or its ports begin, or its bot is given up.
+use Rattle.std.proofs.Common.{◌≡◌, ℕ, ◌<◌, Bool, true, false, List, Option, Some, None, length, refl, sym, ap, ◌∙◌, subst}
+use Rattle.std.specs.Prelude.{◌||◌, IfSome, IsSome, option_map}
+use Rattle.daide_sockets.specs.declared.socket.Socket.{Socket}
+use Rattle.std.specs.declared.time.Instant.{Instant}
+use Rattle.daide_frame.specs.declared.side.Side.TheVariants.{Bot, Server}
+use Rattle.daide_buffered_io.specs.declared.readiness.Readiness.{Readiness}
+use Rattle.daide_sockets.specs.Accepting.{may_connect}
+use Rattle.daide_sockets.specs.KeptRows.{ChangesRows}
+use Rattle.daide_sockets.specs.Pairing.{Arriving, Paired, IsFresh, IsJoined, StaysPending, arrival_at}
+use Rattle.daide_sockets.specs.Scheduling.{RestsForConnect}
+use Rattle.daide_sockets.specs.Table.{Table, deadline_at, key_of, merged, report_at, resting}
+use Rattle.daide_sockets.specs.Times.{is_past}
+use Rattle.daide_sockets.proofs.KeptRowLemmas.{rests_until, same_deadlines}
+
+module _ {S : Type 0} where
+  -- nothing happens to a place without a pending connect
+  pub rests_unchanged : (arrivals : List (Option (Arriving S))) (table : Table) (place : ℕ) →
+      (place < length table.deadlines → arrival_at arrivals place ≡ None) →
+      RestsForConnect (arrival_at arrivals place) table place table
+  rests_unchanged arrivals table place nothing = by (arrival_at arrivals place) nothing
+    where
+      by : (found : Option (Arriving S)) → (place < length table.deadlines → found ≡ None) →
+          RestsForConnect found table place table
+      by None h = refl
+      by (Some arrival) h = λ lt. absurd (let no = h lt in cc)
+
+  -- the place of a pending connect rests
+  pub rests_for : (old mid new : Table) (place key : ℕ) (arrival later : Arriving S) (due : Option Instant)
+      (found : Option (Arriving S)) → found ≡ Some later → key ≡ key_of place Server → ChangesRows (λ row. row ≡ key) old mid →
+      new ≡ resting mid place due → due ≡ later.gives_up → StaysPending arrival later →
+      is_past old.reading arrival.gives_up ≡ false → may_connect mid key later.known ≡ false →
+      RestsForConnect found old place new
+  rests_for old mid new place key arrival later due found there is connects rests until stays early still =
+      subst (λ (f : Option (Arriving S)). RestsForConnect f old place new) (sym there) (λ lt. (
+        ap (λ (t : Table). deadline_at t place) rests
+            ∙ rests_until mid.deadlines place due
+            (subst (λ (n : ℕ). place < n) (sym (ap length (same_deadlines (λ row. row ≡ key) old mid connects))) lt) ∙ until,
+        ap (λ (d : Option Instant). is_past old.reading d) stays.gives_up ∙ early,
+        ap (λ (t : Table). may_connect t (key_of place Server) later.known) rests
+            ∙ ap (λ (k : ℕ). may_connect mid k later.known) (sym is) ∙ still,
+      ))
+
+  -- the ports of a connect that is done are those of its bot
+  pub connected_joins : (arrival later : Arriving S) (pair : Paired S) → (IsSome later.server → later ≡ record arrival { known = later.known }) →
+      IsJoined later pair → IsJoined arrival pair
+  connected_joins arrival later pair reached joined =
+      let there : IsSome later.server = rw joined.server tt in
+      let same = reached there in
+      record {
+        number = joined.number ∙ ap (λ (a : Arriving S). a.number) same;
+        bot = joined.bot ∙ ap (λ (a : Arriving S). a.bot) same;
+        server = sym (ap (λ (a : Arriving S). a.server) same) ∙ joined.server;
+      }
+
+-- what was reported of a server is known of its socket
+pub connected_reports : (known : Option Readiness) (own report : Readiness) →
+    IfSome known (λ (k : Readiness). merged k report ≡ k) → known ≡ Some own → merged own report ≡ own
+connected_reports known own report h e = rw e at h
+
+-- a connect that just began has no result until something is reported of it
+pub fresh_waits : {S : Type 0} (table : Table) (key number : ℕ) (begun : Option S) (made : Option (Socket S)) →
+    IfSome begun (λ (connection : S). (report_at table key).may_write ≡ false) → (begun ≡ None → made ≡ None) →
+    IfSome made (λ (socket : Socket S). IsFresh socket.stream × (socket.made_for ≡ number) × (socket.readiness.may_write ≡ false)) →
+    IsSome (option_map (λ (socket : Socket S). socket.stream) made) →
+    may_connect table key (option_map (λ (socket : Socket S). socket.readiness) made) ≡ false
+fresh_waits table key number begun None unknown none fresh some = absurd some
+fresh_waits table key number None (Some socket) unknown none fresh some = absurd (let no = none refl in cc)
+fresh_waits table key number (Some connection) (Some socket) unknown none fresh some =
+    ap (λ (b : Bool). b || (report_at table key).may_write) fresh.2 ∙ unknown

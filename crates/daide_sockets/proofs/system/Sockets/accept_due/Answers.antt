@@ -1,0 +1,65 @@
+use Rattle.std.proofs.Common.{◌≡◌, ℕ, List, Option, refl, ap, ◌∙◌}
+use Rattle.daide_sockets.specs.Pairing.{Arriving, RunSockets}
+use Rattle.daide_sockets.proofs.KeptRowLemmas.{accept_beside, accept_holds, accept_others, same_deadlines}
+use Rattle.daide_sockets.proofs.PairingLemmas.{same_sockets}
+use Rattle.daide_sockets.proofs.UnpolledLemmas.{accepts_unpolled, asked_unpolled}
+use Rattle.std.proofs.Common.{length}
+use Rattle.daide_sockets.proofs.system.Sockets.accept_due.Goals as goal
+
+pub returns-in_default-clause-transition : goal.returns-in_default-clause-transition
+returns-in_default-clause-transition g c =
+    let asked = c.accept_next.ensures in
+    let none = c.in_default.ensures.none in
+    rw asked.same (λ held. (
+      accept_holds _ _ c.args.place _ asked.table held,
+      same_sockets _ _ _ _ _ none.0 none.1,
+      (
+        record { places = ap length (same_deadlines _ _ _ asked.table); bounded = c.is_bounded.ensures },
+        (
+          asked_unpolled g.N.Network.transition c.args.place _ c.args.self.now.acceptor.came 4294967295 _ _ _ _
+              (λ lt free few due. accepts_unpolled g.N.Network.transition c.args.self.now.servers.now _ _ (asked.made lt free few due))
+              asked.not_made,
+          accept_others _ _ c.args.place asked.table,
+        ),
+      ),
+      (
+        (refl, refl),
+        record {
+          made = λ room due. (c.args.self.now.servers.now, asked.made room.0 room.1 room.2 due);
+          not_made = λ none. asked.not_made (λ lt free few. none (lt, free, few));
+          awaited = asked.awaited;
+        },
+      ),
+      refl,
+      accept_beside _ _ c.args.place asked.table,
+    ))
+
+pub returns-clause-transition : goal.returns-clause-transition
+returns-clause-transition g c =
+    let asked = c.accept_next.ensures in
+    rw (c.tell_of_session.ensures, asked.same) (λ held. (
+      accept_holds _ _ c.args.place _ asked.table held,
+      rw asked.same at c.in-Some.ensures.comes,
+      (
+        record {
+          places = ap length (same_deadlines _ _ _ asked.table);
+          bounded = rw c.tell_of_session.ensures at c.is_bounded-2.ensures;
+        },
+        (
+          asked_unpolled g.N.Network.transition c.args.place _ c.args.self.now.acceptor.came 4294967295 _ _ _ _
+              (λ lt free few due. accepts_unpolled g.N.Network.transition c.args.self.now.servers.now _ _ (asked.made lt free few due))
+              asked.not_made,
+          accept_others _ _ c.args.place asked.table,
+        ),
+      ),
+      (
+        (refl, refl),
+        record {
+          made = λ room due. (c.args.self.now.servers.now, asked.made room.0 room.1 room.2 due);
+          not_made = λ none. asked.not_made (λ lt free few. none (lt, free, few));
+          awaited = asked.awaited;
+        },
+      ),
+      refl,
+      accept_beside _ _ c.args.place asked.table,
+    ))

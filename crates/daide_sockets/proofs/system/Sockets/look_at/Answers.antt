@@ -1,0 +1,147 @@
+use Rattle.std.proofs.Common.{◌≡◌, ℕ, ◌<◌, ◌≤◌, List, Option, Some, None, length, refl, sym, ap, ◌∙◌, subst, arith, rules}
+use Rattle.std.specs.declared.time.Instant.{Instant}
+use Rattle.daide_frame.specs.declared.side.Side.TheVariants.{Bot, Server}
+use Rattle.daide_buffered_io.specs.declared.readiness.Readiness.{Readiness}
+use Rattle.daide_sockets.specs.Table.{Table, key_of, merged, report_at}
+use Rattle.daide_sockets.proofs.ConnectLemmas.{connected_joins, connected_reports, rests_for, rests_unchanged}
+use Rattle.daide_sockets.proofs.KeptRowLemmas.{changes_none, connect_beside, connect_bot, connect_holds, connect_kept, connect_others}
+use Rattle.daide_sockets.proofs.KeptRowLemmas.{failed_beside, failed_holds, failed_others, failed_places, rested_holds, rested_places, same_deadlines}
+use Rattle.daide_sockets.proofs.PairingLemmas.{put_back, there_again, unchanged_pending}
+use Rattle.daide_sockets.proofs.UnpolledLemmas.{both, none, tries_unpolled}
+use Rattle.daide_sockets.proofs.system.Sockets.look_at.Goals as goal
+
+pub returns-in_default-clause-transition : goal.returns-in_default-clause-transition
+returns-in_default-clause-transition g c =
+    let nothing = c.in_default.ensures.none in
+    rw (c.take_arrival-arrival.ensures.same, nothing.1) (λ held. (
+      held,
+      (unchanged_pending c.args.self.now.arrivals.items c.args.place, refl, refl),
+      (
+        record { places = refl; bounded = rw c.take_arrival-arrival.ensures.same at c.is_bounded.ensures },
+        (none g.N.Network.transition _ _ refl, λ other lt ne. record { reports = λ side. refl; deadline = refl }, refl),
+      ),
+      (((refl, refl), refl), rests_unchanged _ c.args.self.now.poller.table c.args.place nothing.0),
+      refl,
+      λ key le. refl,
+    ))
+
+-- sessions end now: the connect is given up
+pub returns-then-stops_now-clause-transition : goal.returns-then-stops_now-clause-transition
+returns-then-stops_now-clause-transition g c =
+    let out = c.in-Some.ensures.some in
+    let lt = c.in-Some.ensures.rows.0 in
+    let closes = rw (c.give_up.ensures.1, c.take_arrival-arrival.ensures.same) at c.let_go.ensures.closes in
+    let rows = rw c.take_arrival-arrival.ensures.same at c.let_go.ensures.rows in
+    rw (c.let_go.ensures.same, c.take_arrival-arrival.ensures.same) (λ held. (
+      failed_holds _ _ _ c.args.place _ _ _ lt refl (changes_none _ _ _ refl) rows held,
+      (c.in-Some.arrival, out, (_, closes), refl),
+      (
+        record {
+          places = failed_places _ _ _ c.args.place _ _ _ lt refl (changes_none _ _ _ refl) rows held;
+          bounded = c.is_bounded-then-stops_now.ensures;
+        },
+        (
+          rw c.take_arrival-arrival.ensures.same at c.let_go.ensures.calls,
+          failed_others _ _ _ c.args.place _ _ _ lt refl (changes_none _ _ _ refl) rows held,
+          tt,
+        ),
+      ),
+      ((refl, refl), refl),
+      (_, closes),
+      failed_beside _ _ _ c.args.place _ _ _ lt refl (changes_none _ _ _ refl) rows held,
+    ))
+
+-- it is still pending: its place rests
+pub returns-then-advances-clause-transition : goal.returns-then-advances-clause-transition
+returns-then-advances-clause-transition g c =
+    let out = c.in-Some.ensures.some in
+    let lt : c.args.place < length c.args.self.now.poller.table.deadlines = c.in-Some.ensures.rows.0 in
+    let most = c.in-Some.ensures.rows.1 in
+    let key : c.server_key.result ≡ key_of c.args.place Server = omega (arith, most, c.server_key.ensures) in
+    let looked = rw c.take_arrival-arrival.ensures.same at c.advances.ensures in
+    rw (c.put_arrival.ensures.same, c.take_arrival-arrival.ensures.same) (λ held. (
+      rested_holds _ _ c.args.place _ _ c.rest.ensures (connect_holds _ _ c.args.place _ _ lt key looked.table held),
+      (put_back _ _ _ c.args.place _ _ out looked.goes_on c.put_arrival.ensures.put, refl, refl),
+      (
+        record {
+          places = rested_places _ _ c.args.place _ c.rest.ensures ∙ ap length (same_deadlines _ _ _ looked.table);
+          bounded = c.is_bounded-then-advances.ensures;
+        },
+        (
+          tries_unpolled g.N.Network.transition _ _ _ _ _ looked.tries,
+          connect_others _ _ _ c.args.place _ _ key looked.table c.rest.ensures,
+          ap (λ (t : Table). report_at t (key_of c.args.place Bot)) c.rest.ensures
+              ∙ connect_bot _ _ c.args.place _ key looked.table,
+        ),
+      ),
+      (
+        ((refl, refl), refl),
+        rests_for _ _ _ c.args.place _ _ _ _ _ (there_again _ _ _ c.args.place _ _ out c.put_arrival.ensures.put) key
+            looked.table c.rest.ensures c.due.ensures looked.goes_on (looked.late c.if-advances.true)
+            (looked.still c.if-advances.true),
+      ),
+      refl,
+      λ row le. ap (λ (t : Table). report_at t row) c.rest.ensures
+          ∙ connect_beside _ _ c.args.place _ lt key looked.table row le,
+    ))
+
+-- it is done: its ports begin
+pub returns-in-Ok-clause-transition : goal.returns-in-Ok-clause-transition
+returns-in-Ok-clause-transition g c =
+    let out = c.in-Some.ensures.some in
+    let lt : c.args.place < length c.args.self.now.poller.table.deadlines = c.in-Some.ensures.rows.0 in
+    let most = c.in-Some.ensures.rows.1 in
+    let key : c.server_key.result ≡ key_of c.args.place Server = omega (arith, most, c.server_key.ensures) in
+    let looked = rw c.take_arrival-arrival.ensures.same at c.advances.ensures in
+    let joined = connected_joins c.in-Some.arrival c.advances.new.self _ (looked.reached c.if-advances.false)
+    c.in-Ok.ensures.joined in
+    rw (c.tell_of_server.ensures, c.take_arrival-arrival.ensures.same) (λ held. (
+      connect_holds _ _ c.args.place _ _ lt key looked.table held,
+      (c.in-Some.arrival, out, joined, refl, refl),
+      (
+        record { places = ap length (same_deadlines _ _ _ looked.table); bounded = c.is_bounded-in-Ok.ensures },
+        (
+          tries_unpolled g.N.Network.transition _ _ _ _ _ looked.tries,
+          connect_kept _ _ c.args.place _ key looked.table,
+          (
+            connect_bot _ _ c.args.place _ key looked.table,
+            connected_reports _ _ _ (rw key at (looked.reported c.if-advances.false)) c.in-Ok.ensures.known,
+          ),
+        ),
+      ),
+      (((refl, refl), refl), search rules),
+      refl,
+      connect_beside _ _ c.args.place _ lt key looked.table,
+    ))
+
+-- its server was not reached
+pub returns-in-Err-clause-transition : goal.returns-in-Err-clause-transition
+returns-in-Err-clause-transition g c =
+    let out = c.in-Some.ensures.some in
+    let lt : c.args.place < length c.args.self.now.poller.table.deadlines = c.in-Some.ensures.rows.0 in
+    let most = c.in-Some.ensures.rows.1 in
+    let key : c.server_key.result ≡ key_of c.args.place Server = omega (arith, most, c.server_key.ensures) in
+    let looked = rw c.take_arrival-arrival.ensures.same at c.advances.ensures in
+    let bot = c.in-Err.ensures.unreached.1 ∙ looked.goes_on.bot in
+    let reading = ap (λ (t : Table). t.reading) looked.table.same in
+    let closes = rw (bot, reading, c.take_arrival-arrival.ensures.same) at c.let_go-in-Err.ensures.closes in
+    let rows = rw c.take_arrival-arrival.ensures.same at c.let_go-in-Err.ensures.rows in
+    rw (c.let_go-in-Err.ensures.same, c.take_arrival-arrival.ensures.same) (λ held. (
+      failed_holds _ _ _ c.args.place _ _ _ lt key looked.table rows held,
+      (c.in-Some.arrival, out, (_, closes), refl),
+      (
+        record {
+          places = failed_places _ _ _ c.args.place _ _ _ lt key looked.table rows held;
+          bounded = c.is_bounded-in-Err.ensures;
+        },
+        (
+          both g.N.Network.transition _ _ _ (tries_unpolled g.N.Network.transition _ _ _ _ _ looked.tries)
+              c.let_go-in-Err.ensures.calls,
+          failed_others _ _ _ c.args.place _ _ _ lt key looked.table rows held,
+          tt,
+        ),
+      ),
+      ((refl, refl), refl),
+      (_, closes),
+      failed_beside _ _ _ c.args.place _ _ _ lt key looked.table rows held,
+    ))
