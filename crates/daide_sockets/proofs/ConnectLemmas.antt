@@ -1,12 +1,13 @@
 -- The result of a connect: its place rests, or its ports begin, or its bot is given up.
 use Rattle.std.proofs.Common.{◌≡◌, ℕ, ◌<◌, Bool, true, false, List, Option, Some, None, length, refl, sym, ap, ◌∙◌, subst}
-use Rattle.std.specs.Prelude.{IfSome, IsSome}
+use Rattle.std.specs.Prelude.{◌||◌, IfSome, IsSome, option_map}
+use Rattle.daide_sockets.specs.declared.socket.Socket.{Socket}
 use Rattle.std.specs.declared.time.Instant.{Instant}
 use Rattle.daide_frame.specs.declared.side.Side.TheVariants.{Bot, Server}
 use Rattle.daide_buffered_io.specs.declared.readiness.Readiness.{Readiness}
 use Rattle.daide_sockets.specs.Accepting.{may_connect}
 use Rattle.daide_sockets.specs.KeptRows.{ChangesRows}
-use Rattle.daide_sockets.specs.Pairing.{Arriving, Paired, IsJoined, StaysPending, arrival_at}
+use Rattle.daide_sockets.specs.Pairing.{Arriving, Paired, IsFresh, IsJoined, StaysPending, arrival_at}
 use Rattle.daide_sockets.specs.Scheduling.{RestsForConnect}
 use Rattle.daide_sockets.specs.Table.{Table, deadline_at, key_of, merged, report_at, resting}
 use Rattle.daide_sockets.specs.Times.{is_past}
@@ -56,3 +57,14 @@ module _ {S : Type 0} where
 pub connected_reports : (known : Option Readiness) (own report : Readiness) →
     IfSome known (λ (k : Readiness). merged k report ≡ k) → known ≡ Some own → merged own report ≡ own
 connected_reports known own report h e = rw e at h
+
+-- a connect that just began has no result until something is reported of it
+pub fresh_waits : {S : Type 0} (table : Table) (key number : ℕ) (begun : Option S) (made : Option (Socket S)) →
+    IfSome begun (λ (connection : S). (report_at table key).may_write ≡ false) → (begun ≡ None → made ≡ None) →
+    IfSome made (λ (socket : Socket S). IsFresh socket.stream × (socket.made_for ≡ number) × (socket.readiness.may_write ≡ false)) →
+    IsSome (option_map (λ (socket : Socket S). socket.stream) made) →
+    may_connect table key (option_map (λ (socket : Socket S). socket.readiness) made) ≡ false
+fresh_waits table key number begun None unknown none fresh some = absurd some
+fresh_waits table key number None (Some socket) unknown none fresh some = absurd (let no = none refl in cc)
+fresh_waits table key number (Some connection) (Some socket) unknown none fresh some =
+    ap (λ (b : Bool). b || (report_at table key).may_write) fresh.2 ∙ unknown

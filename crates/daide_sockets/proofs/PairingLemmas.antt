@@ -1,10 +1,12 @@
 -- What calls do to the bots whose connects are pending.
 use Rattle.std.proofs.Common.{◌≡◌, ℕ, zero, suc, ◌+◌, Bool, true, false, List, [], ◌∷◌, refl, sym, ap, ◌∙◌, arith}
 use Rattle.std.proofs.Common.{◌⊎◌, Option, Some, None, inl, inr, subst}
-use Rattle.std.specs.Prelude.{slice_get, slice_set}
+use Rattle.std.proofs.Common.{◌<◌, drop, get_or, length}
+use Rattle.std.proofs.Math.Seq.{drop-cons}
+use Rattle.std.specs.Prelude.{is_some, slice_get, slice_set}
 use Rattle.daide_sockets.specs.Lingering.{ClosingList}
 use Rattle.daide_sockets.specs.Pairing.{Arriving, RunSockets, IsFreshConnect, StaysPending, StaysPendingIf, TakesOut, arrival_at, arrival_in}
-use Rattle.daide_sockets.specs.Pairing.{is_free_in, is_free_place, sum_over}
+use Rattle.daide_sockets.specs.Pairing.{is_free_in, is_free_place, one_if_arrives, pending_in, sum_over}
 
 module _ {S : Type 0} where
   -- a bot stays pending, by one call and then another
@@ -145,3 +147,26 @@ module _ {S : Type 0} where
   same_sockets came other arrivals others closing e f =
       ap (λ (n : ℕ). sockets_of n arrivals closing) e
       ∙ ap (λ (l : List (Option (Arriving S))). sockets_of other l closing) f
+
+  -- the next place of a list is counted
+  pub counts_next : (arrivals : List (Option (Arriving S))) (i : ℕ) (item : Option (Arriving S)) (some : Bool) → i < length arrivals →
+      item ≡ get_or arrivals i item → some ≡ is_some item →
+      (some ≡ true → pending_in (drop i arrivals) ≡ 1 + pending_in (drop (i + 1) arrivals))
+      × (some ≡ false → pending_in (drop i arrivals) ≡ pending_in (drop (i + 1) arrivals))
+  counts_next arrivals i item some lt is e = by item is e
+    where
+      rest : suc i ≡ i + 1
+      rest = omega arith
+
+      split : (own : Option (Arriving S)) → own ≡ get_or arrivals i item →
+          pending_in (drop i arrivals) ≡ one_if_arrives own + pending_in (drop (i + 1) arrivals)
+      split own same =
+          ap pending_in (drop-cons arrivals i item lt)
+          ∙ ap (λ (n : ℕ). one_if_arrives (get_or arrivals i item) + pending_in (drop n arrivals)) rest
+          ∙ ap (λ (a : Option (Arriving S)). one_if_arrives a + pending_in (drop (i + 1) arrivals)) (sym same)
+
+      by : (own : Option (Arriving S)) → own ≡ get_or arrivals i item → some ≡ is_some own →
+          (some ≡ true → pending_in (drop i arrivals) ≡ 1 + pending_in (drop (i + 1) arrivals))
+          × (some ≡ false → pending_in (drop i arrivals) ≡ pending_in (drop (i + 1) arrivals))
+      by None same f = (λ yes. absurd (cc), λ no. let all = split None same in omega (arith, all))
+      by (Some arrival) same f = (λ yes. let all = split (Some arrival) same in omega (arith, all), λ no. absurd (cc))

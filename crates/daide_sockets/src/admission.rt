@@ -457,7 +457,7 @@ fn connecting<'w, S: Duplex + Drop>(
 ) -> Option<Socket<'w, S>>
     ensures fresh { IfSome result (λ socket. IsFresh socket.stream × (socket.made_for ≡ number)
         × (socket.readiness.may_write ≡ false)) }
-    ensures none { result ≡ None → begun ≡ None }
+    ensures none { (result ≡ None → begun ≡ None) × (begun ≡ None → result ≡ None) }
 {
     match begun {
         Some(stream) => Some(Socket::over(pool, stream, key).of_connect(number)),

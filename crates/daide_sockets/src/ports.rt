@@ -229,6 +229,7 @@ impl<'w, S: Drop> SocketPorts<'w, S> {
         ensures goes_on { result.is_stopped ≡ false }
         ensures timed { (result.bot.timed ≡ bot.entry.timed) × (result.server.timed ≡ server.entry.timed) }
         ensures keys { (result.bot.key ≡ bot.entry.key) × (result.server.key ≡ server.entry.key) }
+        ensures known { (result.bot.readiness ≡ bot.entry.readiness) × (result.server.readiness ≡ server.entry.readiness) }
     {
         SocketPorts {
             number: 0,
@@ -268,6 +269,8 @@ impl<'w, S: Drop> SocketPorts<'w, S> {
         ensures goes_on { result.is_stopped ≡ self.entry.is_stopped }
         ensures begins { BeginsAt now times (timers_of result) }
         ensures keys { (result.bot.key ≡ self.entry.bot.key) × (result.server.key ≡ self.entry.server.key) }
+        ensures known { (result.bot.readiness ≡ self.entry.bot.readiness)
+            × (result.server.readiness ≡ self.entry.server.readiness) }
     {
         let (time, stall_time) = times;
         let SocketPorts {

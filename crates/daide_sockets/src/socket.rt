@@ -15,7 +15,7 @@ ghost use Rattle.daide_buffered_io.specs.Taking.{bytes_taken, taken_len};
 ghost use Rattle.daide_sockets.specs.Lingering.{IsWriting, IsWritingOver};
 ghost use Rattle.daide_sockets.specs.Pairing.{IsFresh};
 ghost use Rattle.daide_sockets.specs.Sockets.{after_move, has_socket_work, next_deadline};
-ghost use Rattle.daide_sockets.specs.Table.{freed, merged, report_at, without_report};
+ghost use Rattle.daide_sockets.specs.Table.{freed, merged, no_report, report_at, without_report};
 ghost use Rattle.daide_sockets.specs.Timers.{IsStallKept, FlushesInTime, BeginsInTime, PutsInTime};
 ghost use Rattle.daide_sockets.specs.Times.{StallsNext, has_stalled, is_past};
 ghost use Rattle.daide_sockets.specs.Wakeups.{StaysUnread, IsNothing, IsPulled, IsOffered};
@@ -120,6 +120,7 @@ impl<'w, S: Drop> Socket<'w, S> {
         ensures timed { result.timed ≡ record { is_silent = false; is_stalled = false; ends_stalled = false } }
         ensures stall_time { IsNone result.stall_time }
         ensures key { result.key ≡ key }
+        ensures unknown { result.readiness ≡ no_report }
     {
         Socket {
             stream: Buffered::new(stream),
@@ -142,7 +143,7 @@ impl<'w, S: Drop> Socket<'w, S> {
     pub(crate) fn of_connect(self, number: u32) -> Socket<'w, S>
         ensures stream { result.stream ≡ self.entry.stream }
         ensures made_for { result.made_for ≡ number }
-        ensures key { result.key ≡ self.entry.key }
+        ensures known { (result.key ≡ self.entry.key) × (result.readiness ≡ self.entry.readiness) }
     {
         let mut socket = self;
         socket.made_for = number;

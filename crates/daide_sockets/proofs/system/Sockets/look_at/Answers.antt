@@ -38,7 +38,7 @@ returns-then-stops_now-clause-transition g c =
       (
         record {
           places = failed_places _ _ _ c.args.place _ _ _ lt refl (changes_none _ _ _ refl) rows held;
-          bounded = c.is_bounded.ensures;
+          bounded = c.is_bounded-then-stops_now.ensures;
         },
         (
           rw c.take_arrival-arrival.ensures.same at c.let_go.ensures.calls,
@@ -65,7 +65,7 @@ returns-then-advances-clause-transition g c =
       (
         record {
           places = rested_places _ _ c.args.place _ c.rest.ensures ∙ ap length (same_deadlines _ _ _ looked.table);
-          bounded = c.is_bounded.ensures;
+          bounded = c.is_bounded-then-advances.ensures;
         },
         (
           tries_unpolled g.N.Network.transition _ _ _ _ _ looked.tries,
@@ -99,7 +99,7 @@ returns-in-Ok-clause-transition g c =
       connect_holds _ _ c.args.place _ _ lt key looked.table held,
       (c.in-Some.arrival, out, joined, refl, refl),
       (
-        record { places = ap length (same_deadlines _ _ _ looked.table); bounded = c.is_bounded.ensures },
+        record { places = ap length (same_deadlines _ _ _ looked.table); bounded = c.is_bounded-in-Ok.ensures },
         (
           tries_unpolled g.N.Network.transition _ _ _ _ _ looked.tries,
           connect_kept _ _ c.args.place _ key looked.table,
@@ -124,19 +124,19 @@ returns-in-Err-clause-transition g c =
     let looked = rw c.take_arrival-arrival.ensures.same at c.advances.ensures in
     let bot = c.in-Err.ensures.unreached.1 ∙ looked.goes_on.bot in
     let reading = ap (λ (t : Table). t.reading) looked.table.same in
-    let closes = rw (bot, reading, c.take_arrival-arrival.ensures.same) at c.let_go-2.ensures.closes in
-    let rows = rw c.take_arrival-arrival.ensures.same at c.let_go-2.ensures.rows in
-    rw (c.let_go-2.ensures.same, c.take_arrival-arrival.ensures.same) (λ held. (
+    let closes = rw (bot, reading, c.take_arrival-arrival.ensures.same) at c.let_go-in-Err.ensures.closes in
+    let rows = rw c.take_arrival-arrival.ensures.same at c.let_go-in-Err.ensures.rows in
+    rw (c.let_go-in-Err.ensures.same, c.take_arrival-arrival.ensures.same) (λ held. (
       failed_holds _ _ _ c.args.place _ _ _ lt key looked.table rows held,
       (c.in-Some.arrival, out, (_, closes), refl),
       (
         record {
           places = failed_places _ _ _ c.args.place _ _ _ lt key looked.table rows held;
-          bounded = c.is_bounded.ensures;
+          bounded = c.is_bounded-in-Err.ensures;
         },
         (
           both g.N.Network.transition _ _ _ (tries_unpolled g.N.Network.transition _ _ _ _ _ looked.tries)
-              c.let_go-2.ensures.calls,
+              c.let_go-in-Err.ensures.calls,
           failed_others _ _ _ c.args.place _ _ _ lt key looked.table rows held,
           tt,
         ),
