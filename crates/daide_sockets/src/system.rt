@@ -17,7 +17,7 @@ ghost use Rattle.daide_sockets.specs.Finishing.{FinishesAll};
 ghost use Rattle.daide_sockets.specs.InTime.{watching_all};
 ghost use Rattle.daide_sockets.specs.Lines.{milliseconds_between};
 ghost use Rattle.daide_sockets.specs.Lingering.{LooksAround, in_pass, GoOnFor, no_closing};
-ghost use Rattle.daide_sockets.specs.Pairing.{Arriving, ClosesBothAt, TakesOut, pending_in};
+ghost use Rattle.daide_sockets.specs.Pairing.{Arriving, ClosesBothAt, TakesOut, pending_connects};
 ghost use Rattle.daide_sockets.specs.Present.{position_of, time_in, without_at};
 ghost use Rattle.daide_sockets.specs.Rows.{AreRowsOf, KeepsClosingRows, closing_keys};
 ghost use Rattle.daide_sockets.specs.Scheduling.{RunEvolves, run_state};
@@ -155,7 +155,7 @@ impl<'w, N: Network, E: Write + Drop> Sockets<'w, N, E> {
         errors: E,
     ) -> Option<Sockets<'w, N, E>>
         ensures none_came { IfSome result (λ sockets. (sockets.acceptor.came ≡ 0) × (sockets.is_verbose ≡ false)) }
-        ensures none_held { IfSome result (λ sockets. (pending_in sockets.arrivals.items ≡ 0)
+        ensures none_held { IfSome result (λ sockets. (pending_connects sockets.arrivals.items ≡ 0)
             × (sockets.closings ≡ no_closing sockets.stall_time)) }
         ensures room { IfSome result (λ sockets. (length sockets.arrivals.items ≡ settings.now.max_sessions)
             × (length sockets.poller.table.deadlines ≡ length ground.entry.2.deadlines)) }
