@@ -540,9 +540,9 @@ impl<'w, N: Network, E: Write + Drop> System<SocketPorts<'w, N::Connection>> for
             (run_state (self.new.poller.network, self.new.poller.table) (self.new.idle_time, self.new.stall_time) self.new.acceptor
             self.new.arrivals.items self.new.closings) }
         ensures unreached { result ≡ Connect.Failed → self.old.control.stops_now ≡ false →
-            (arrival : Arriving N.Connection) × (mid : N) × TakesOut self.old.arrivals.items place arrival self.new.arrivals.items
-            × IsUnreached N.transition self.old.servers.now self.old.poller.table.reading arrival.gives_up arrival.tried mid
-            self.new.poller.network }
+            (arrival : Arriving N.Connection) × (tried : N) × TakesOut self.old.arrivals.items place arrival self.new.arrivals.items
+            × IsUnreached N.transition self.old.servers.now self.old.poller.table.reading arrival.gives_up arrival.tried
+            self.old.poller.network tried }
         ensures same { self.new ≡ record self.old {
           poller = self.new.poller;
           arrivals = self.new.arrivals;
