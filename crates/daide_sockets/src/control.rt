@@ -2,7 +2,7 @@
 //!
 //! They are read and written at each poll, each once, so no session waits for them. The next poll watches them.
 
-ghost use Rattle.std.specs.Prelude.{◌≡◌, ◌||◌, ◌<◌, [], ◌∷◌, false, true, IfSome, None, Some};
+ghost use Rattle.std.specs.Prelude.{◌≡◌, ◌<◌, [], ◌∷◌, false, true, IfSome, None, Some};
 ghost use Rattle.daide_sockets.specs.Accepting.{Pauses};
 ghost use Rattle.daide_sockets.specs.Snapshot.{seconds_between, or_zero};
 ghost use Rattle.daide_sockets.specs.Control.{gathers_at, stops_at, stops_now_at};
