@@ -10,7 +10,7 @@ use Rattle.daide_io.specs.declared.system.Connect.TheVariants.{Ready, Failed, Pe
 use Rattle.daide_io.specs.Streams.{StreamCall}
 use Rattle.daide_sockets.specs.Accounted.{bots_joined, bots_given_up, sessions_retired, IsAccounted}
 use Rattle.daide_sockets.specs.Lingering.{ClosingStream, ClosingList, IsLookedAt, LooksAtEach, ClosingsGoOn, in_pass}
-use Rattle.daide_sockets.specs.Pairing.{Arriving, Paired, RunSockets, StaysPending, ClosesAt, Transits, one_if_arrives, pending_in, with_room}
+use Rattle.daide_sockets.specs.Pairing.{Arriving, Paired, RunSockets, StaysPending, ClosesAt, Transits, one_if_arrives, pending_connects, with_room}
 use Rattle.daide_sockets.proofs.PairingLemmas.{sum_in, sum_out, sum_stays}
 
 module _ {P S : Type 0} (to_give taken : S → Option (List ℕ)) (calls : S → Option (List StreamCall))
@@ -95,7 +95,7 @@ module _ {P S : Type 0} (to_give taken : S → Option (List ℕ)) (calls : S →
 
   -- the effect of calls on what is counted
   pub record Counts (answers : List (SystemCall P)) (old new : RunSockets S) : Type 0 where
-    pub bots : new.came + pending_in old.arrivals ≡ old.came + (pending_in new.arrivals + (bots_joined answers + bots_given_up answers))
+    pub bots : new.came + pending_connects old.arrivals ≡ old.came + (pending_connects new.arrivals + (bots_joined answers + bots_given_up answers))
     pub closing : length new.closing.streams ≤ length old.closing.streams + (bots_given_up answers + 2 * sessions_retired answers)
     pub few : length old.closing.streams ≤ 256 → length new.closing.streams ≤ 256
 
@@ -103,7 +103,7 @@ module _ {P S : Type 0} (to_give taken : S → Option (List ℕ)) (calls : S →
       bots_given_up (answer ∷ []) ≡ 0 → Counts (answer ∷ []) old new
   same_counts answer old new e none no_other =
       let came : new.came ≡ old.came = ap (λ (s : RunSockets S). s.came) e in
-      let arrivals : pending_in new.arrivals ≡ pending_in old.arrivals = ap (λ (s : RunSockets S). pending_in s.arrivals) e in
+      let arrivals : pending_connects new.arrivals ≡ pending_connects old.arrivals = ap (λ (s : RunSockets S). pending_connects s.arrivals) e in
       let closing : length new.closing.streams ≡ length old.closing.streams =
       ap (λ (s : RunSockets S). length s.closing.streams) e in
       record {
@@ -116,7 +116,7 @@ module _ {P S : Type 0} (to_give taken : S → Option (List ℕ)) (calls : S →
       Counts (answer ∷ []) old new
   one (Polls may_block woken orders) old new h =
       let came = h.0 in
-      let arrivals : pending_in new.arrivals ≡ pending_in old.arrivals = ap pending_in h.1 in
+      let arrivals : pending_connects new.arrivals ≡ pending_connects old.arrivals = ap pending_connects h.1 in
       let fewer = round_len old.closing new.closing h.2 in
       record {
         bots = omega (arith, came, arrivals);
@@ -174,7 +174,7 @@ module _ {P S : Type 0} (to_give taken : S → Option (List ℕ)) (calls : S →
       let one_more = first.0 in
       let two_more = second.0 in
       let came = h.1 in
-      let arrivals : pending_in new.arrivals ≡ pending_in old.arrivals = ap pending_in h.2 in
+      let arrivals : pending_connects new.arrivals ≡ pending_connects old.arrivals = ap pending_connects h.2 in
       record {
         bots = omega (arith, came, arrivals);
         closing = omega (arith, one_more, two_more);
@@ -224,7 +224,7 @@ module _ {P S : Type 0} (to_give taken : S → Option (List ℕ)) (calls : S →
       TransitsBy (Transits to_give taken calls pair) old answers new → Counts answers old new
   counted old new [] h =
       let came : new.came ≡ old.came = ap (λ (s : RunSockets S). s.came) h in
-      let arrivals : pending_in new.arrivals ≡ pending_in old.arrivals = ap (λ (s : RunSockets S). pending_in s.arrivals) h in
+      let arrivals : pending_connects new.arrivals ≡ pending_connects old.arrivals = ap (λ (s : RunSockets S). pending_connects s.arrivals) h in
       let closing : length new.closing.streams ≡ length old.closing.streams =
       ap (λ (s : RunSockets S). length s.closing.streams) h in
       record {
@@ -248,7 +248,7 @@ module _ {P S : Type 0} (to_give taken : S → Option (List ℕ)) (calls : S →
         few = λ few. rest.few (first.few few);
       }
 
-  pub accounted : (old new : RunSockets S) (answers : List (SystemCall P)) → old.came ≡ 0 → pending_in old.arrivals ≡ 0 →
+  pub accounted : (old new : RunSockets S) (answers : List (SystemCall P)) → old.came ≡ 0 → pending_connects old.arrivals ≡ 0 →
       old.closing.streams ≡ [] → TransitsBy (Transits to_give taken calls pair) old answers new → IsAccounted answers new
   accounted old new answers none no_arrivals no_closing h =
       let counts = counted old new answers h in

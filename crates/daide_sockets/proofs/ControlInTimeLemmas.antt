@@ -35,20 +35,6 @@ same_clock table has_room None = refl
 same_clock table true (Some listener) = refl
 same_clock table false (Some listener) = refl
 
-places_clock : {S : Type 0} (table : Table) (rest : List (Option (ControlConnection S))) →
-    (watching_places table rest).reading ≡ table.reading
-places_clock table [] = refl
-places_clock table (None ∷ rest) = places_clock table rest
-places_clock table (Some connection ∷ rest) =
-    places_clock (watching table (has_control_work connection) (control_due connection)) rest
-
--- what a poll watches of the control socket leaves the reading of the clock
-pub control_clock : {S : Type 0} (table : Table) (control : Control S) →
-    (watching_control table control).reading ≡ table.reading
-control_clock table control =
-    places_clock (watching_listener table (has_free (places control.slots)) control.listener) (places control.slots)
-    ∙ same_clock table (has_free (places control.slots)) control.listener
-
 abbrev listener_or : ControlListener → Option ControlListener → ControlListener
 listener_or other None = other
 listener_or other (Some listener) = listener

@@ -137,14 +137,6 @@ holds_rows own old new keys below h rows = record {
         ap (λ (r : Row). one_if r.is_taken) (h.others key (λ o. absurd (let lt = below key o in omega (arith, lt, ge))))
         ∙ rows.taken key
 
--- a place of which no row changes is kept
-pub keeps_place : (own : ℕ → Type 0) (old new : Table) (place : ℕ) → ((side : Side) → own (key_of place side) → ⊥) →
-    ChangesRows own old new → KeepsPlace old place new
-keeps_place own old new place ne h = record {
-  reports = λ side. keeps_report own old new (key_of place side) (ne side) h;
-  deadline = ap (λ (t : Table). deadline_in (slice_get t.deadlines place)) h.same;
-}
-
 pub apart : (place other : ℕ) → (place == other) ≡ false → place ≡ other → ⊥
 apart place other e h = grind (arith, e, h)
 
@@ -234,15 +226,6 @@ rested_holds old new place due keys e rows =
 pub rested_places : (old new : Table) (place : ℕ) (due : Option Instant) → new ≡ resting old place due →
     length new.deadlines ≡ length old.deadlines
 rested_places old new place due e = ap (λ (t : Table). length t.deadlines) e ∙ deadline_count old.deadlines place due
-
--- closing streams changed their rows, after the deadline of a place was forgotten
-pub closing_keeps : (old new : Table) (place : ℕ) (given left : List ℕ) →
-    KeepsClosingRows (forgotten old place) given new left → AreRowsOf old given → KeepsOtherPlaces old place new
-closing_keeps old new place given left h rows =
-    keeps_others old new place
-    (λ other side lt ne. h.others (forgot old place given rows) (key_of other side)
-        (let below = below_closing old other side lt in let same = deadline_count old.deadlines place None in omega (arith, below, same)))
-    (λ other ne. ap (λ (t : Table). slice_get t.deadlines other) h.same ∙ get_other old.deadlines place other None ne)
 
 -- ---- an accept
 

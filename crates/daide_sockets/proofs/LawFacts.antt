@@ -9,7 +9,7 @@ use Rattle.std.specs.declared.time.Instant.{Instant}
 use Rattle.daide_io.specs.System.{SystemCall, Accepts, Connects, TransitsBy}
 use Rattle.daide_io.specs.declared.system.Connect.TheVariants.{Ready, Failed}
 use Rattle.daide_io.specs.Streams.{StreamCall}
-use Rattle.daide_sockets.specs.Pairing.{Paired, RunSockets, Transits, pending_in}
+use Rattle.daide_sockets.specs.Pairing.{Paired, RunSockets, Transits, pending_connects}
 use Rattle.daide_sockets.specs.Lingering.{ClosingStream}
 use Rattle.daide_sockets.specs.Beside.{WaitsAreInTimeBeside, may_close_on, closing_due, others_watched}
 use Rattle.daide_sockets.specs.Accounted.{SocketsAreAccounted}
@@ -30,7 +30,7 @@ use Rattle.daide_sockets.specs.declared.control_connection.Stage.TheVariants.{Re
 -- no two connects deliver ports of session 5
 never_twice : {P S : Type 0} (to_give taken : S → Option (List ℕ)) (calls : S → Option (List StreamCall)) →
     SessionsComeOnce P to_give taken calls → (pair : P → Paired S) (old new : RunSockets S) (a b : P) → old.came ≡ 0 →
-    pending_in old.arrivals ≡ 0 →
+    pending_connects old.arrivals ≡ 0 →
     TransitsBy (Transits to_give taken calls pair) old (Connects 3 (Ready a) ∷ Connects 4 (Ready b) ∷ []) new →
     (pair a).number ≡ 5 → (pair b).number ≡ 5 → ⊥
 never_twice to_give taken calls law pair old new a b none no_arrivals goes first second =
@@ -88,7 +88,7 @@ closing_goes_out {S} law table time closing failed held may lasts =
 -- of the only bot, which was given up, at most one socket closes
 given_up_closes_one : {P S : Type 0} (to_give taken : S → Option (List ℕ)) (calls : S → Option (List StreamCall)) →
     SocketsAreAccounted P to_give taken calls → (pair : P → Paired S) (old new : RunSockets S) → old.came ≡ 0 →
-    pending_in old.arrivals ≡ 0 → old.closing.streams ≡ [] →
+    pending_connects old.arrivals ≡ 0 → old.closing.streams ≡ [] →
     TransitsBy (Transits to_give taken calls pair) old (Accepts 3 true ∷ Connects 3 Failed ∷ []) new →
     length new.closing.streams ≤ 1
 given_up_closes_one to_give taken calls law pair old new none no_arrivals no_closing goes =

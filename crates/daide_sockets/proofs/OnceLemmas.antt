@@ -4,7 +4,7 @@ use Rattle.std.specs.Prelude.{nat_lt, if◌then◌else◌}
 use Rattle.daide_io.specs.System.{SystemCall, Polls, Shows, Accepts, Connects, BeginsTurn, Rests, Retires, Notifies, TransitsBy}
 use Rattle.daide_io.specs.declared.system.Connect.TheVariants.{Ready, Failed, Pending}
 use Rattle.daide_io.specs.Streams.{StreamCall}
-use Rattle.daide_sockets.specs.Pairing.{Arriving, Paired, RunSockets, StaysPending, TakesOut, Transits, pending_in, sum_over}
+use Rattle.daide_sockets.specs.Pairing.{Arriving, Paired, RunSockets, StaysPending, TakesOut, Transits, pending_connects, sum_over}
 use Rattle.daide_sockets.specs.PairedOnce.{one_if_same, handed}
 use Rattle.daide_sockets.proofs.PairingLemmas.{sum_in, sum_out, sum_stays}
 
@@ -32,7 +32,7 @@ module _ {S : Type 0} (n : ℕ) where
   left sockets = sum_over numbered sockets.arrivals + to_come n sockets.came
 
   -- no bot that is pending has the number
-  none_pending : (arrivals : List (Option (Arriving S))) → pending_in arrivals ≡ 0 → sum_over numbered arrivals ≡ 0
+  none_pending : (arrivals : List (Option (Arriving S))) → pending_connects arrivals ≡ 0 → sum_over numbered arrivals ≡ 0
   none_pending [] h = refl
   none_pending (None ∷ arrivals) h =
       let rest = none_pending arrivals (omega (arith, h)) in
@@ -102,7 +102,7 @@ module _ {S : Type 0} (n : ℕ) where
         let c = handed_first answer answers in
         omega (arith, a, b, c)
 
-    pub come_once : (old new : RunSockets S) (answers : List (SystemCall P)) → old.came ≡ 0 → pending_in old.arrivals ≡ 0 →
+    pub come_once : (old new : RunSockets S) (answers : List (SystemCall P)) → old.came ≡ 0 → pending_connects old.arrivals ≡ 0 →
         TransitsBy (Transits to_give taken calls pair) old answers new → handed pair n answers ≤ 1
     come_once old new answers came arrivals h =
         let a = all answers old new h in

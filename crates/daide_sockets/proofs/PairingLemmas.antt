@@ -6,7 +6,7 @@ use Rattle.std.proofs.Math.Seq.{drop-cons}
 use Rattle.std.specs.Prelude.{is_some, slice_get, slice_set}
 use Rattle.daide_sockets.specs.Lingering.{ClosingList}
 use Rattle.daide_sockets.specs.Pairing.{Arriving, RunSockets, IsFreshConnect, StaysPending, StaysPendingIf, TakesOut, arrival_at, arrival_in}
-use Rattle.daide_sockets.specs.Pairing.{is_free_in, is_free_place, one_if_arrives, pending_in, sum_over}
+use Rattle.daide_sockets.specs.Pairing.{is_vacant_in, is_vacant, one_if_arrives, pending_connects, sum_over}
 
 module _ {S : Type 0} where
   -- a bot stays pending, by one call and then another
@@ -44,11 +44,11 @@ module _ {S : Type 0} where
       let rest = sum_set number arrivals place before after h in
       omega (arith, rest)
 
-  pub free_is : (arrivals : List (Option (Arriving S))) (place : ℕ) → is_free_place arrivals place ≡ true →
+  pub free_is : (arrivals : List (Option (Arriving S))) (place : ℕ) → is_vacant arrivals place ≡ true →
       slice_get arrivals place ≡ Some None
   free_is arrivals place h = by (slice_get arrivals place) refl h
     where
-      by : (found : Option (Option (Arriving S))) → slice_get arrivals place ≡ found → is_free_in found ≡ true →
+      by : (found : Option (Option (Arriving S))) → slice_get arrivals place ≡ found → is_vacant_in found ≡ true →
           slice_get arrivals place ≡ Some None
       by None e h = absurd (cc)
       by (Some None) e h = e
@@ -80,7 +80,7 @@ module _ {S : Type 0} where
 
   -- a bot comes to a free place
   pub sum_in : (number : Option (Arriving S) → ℕ) (old new : List (Option (Arriving S))) (place : ℕ) (arrival : Arriving S) →
-      number None ≡ 0 → is_free_place old place ≡ true → new ≡ slice_set old place (Some arrival) →
+      number None ≡ 0 → is_vacant old place ≡ true → new ≡ slice_set old place (Some arrival) →
       sum_over number new ≡ number (Some arrival) + sum_over number old
   sum_in number old new place arrival none free h =
       let sum = sum_set number old place None (Some arrival) (free_is old place free) in
@@ -151,22 +151,22 @@ module _ {S : Type 0} where
   -- the next place of a list is counted
   pub counts_next : (arrivals : List (Option (Arriving S))) (i : ℕ) (item : Option (Arriving S)) (some : Bool) → i < length arrivals →
       item ≡ get_or arrivals i item → some ≡ is_some item →
-      (some ≡ true → pending_in (drop i arrivals) ≡ 1 + pending_in (drop (i + 1) arrivals))
-      × (some ≡ false → pending_in (drop i arrivals) ≡ pending_in (drop (i + 1) arrivals))
+      (some ≡ true → pending_connects (drop i arrivals) ≡ 1 + pending_connects (drop (i + 1) arrivals))
+      × (some ≡ false → pending_connects (drop i arrivals) ≡ pending_connects (drop (i + 1) arrivals))
   counts_next arrivals i item some lt is e = by item is e
     where
       rest : suc i ≡ i + 1
       rest = omega arith
 
       split : (own : Option (Arriving S)) → own ≡ get_or arrivals i item →
-          pending_in (drop i arrivals) ≡ one_if_arrives own + pending_in (drop (i + 1) arrivals)
+          pending_connects (drop i arrivals) ≡ one_if_arrives own + pending_connects (drop (i + 1) arrivals)
       split own same =
-          ap pending_in (drop-cons arrivals i item lt)
-          ∙ ap (λ (n : ℕ). one_if_arrives (get_or arrivals i item) + pending_in (drop n arrivals)) rest
-          ∙ ap (λ (a : Option (Arriving S)). one_if_arrives a + pending_in (drop (i + 1) arrivals)) (sym same)
+          ap pending_connects (drop-cons arrivals i item lt)
+          ∙ ap (λ (n : ℕ). one_if_arrives (get_or arrivals i item) + pending_connects (drop n arrivals)) rest
+          ∙ ap (λ (a : Option (Arriving S)). one_if_arrives a + pending_connects (drop (i + 1) arrivals)) (sym same)
 
       by : (own : Option (Arriving S)) → own ≡ get_or arrivals i item → some ≡ is_some own →
-          (some ≡ true → pending_in (drop i arrivals) ≡ 1 + pending_in (drop (i + 1) arrivals))
-          × (some ≡ false → pending_in (drop i arrivals) ≡ pending_in (drop (i + 1) arrivals))
+          (some ≡ true → pending_connects (drop i arrivals) ≡ 1 + pending_connects (drop (i + 1) arrivals))
+          × (some ≡ false → pending_connects (drop i arrivals) ≡ pending_connects (drop (i + 1) arrivals))
       by None same f = (λ yes. absurd (cc), λ no. let all = split None same in omega (arith, all))
       by (Some arrival) same f = (λ yes. let all = split (Some arrival) same in omega (arith, all), λ no. absurd (cc))

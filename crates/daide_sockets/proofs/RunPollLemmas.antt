@@ -61,6 +61,18 @@ watched_control table control =
     (watched_listener table (has_free (places control.slots)) control.listener)
     (watched_places first (places control.slots))
 
+-- the time of a poll that may block is that of a table in which others are watched; that of any other is of none
+pub blocks_watched : (may_block : Bool) (base watched : Table) (others : List (Bool × Option Instant)) (time : Option Duration) →
+    (may_block ≡ true → watched ≡ watching_all base others) → IsPollTime may_block watched time →
+    IsPollTime may_block (watching_all base others) time
+blocks_watched true base watched others time h lasts = subst (λ (t : Table). IsPollTime true t time) (h refl) lasts
+blocks_watched false base watched others time h lasts = lasts
+
+pub is_watched : (may_block : Bool) (base watched : Table) (others : List (Bool × Option Instant)) →
+    (may_block ≡ true → watched ≡ watching_all base others) → (may_block ≡ false → watched ≡ base) → IsWatched base watched
+is_watched true base watched others on off = subst (IsWatched base) (sym (on refl)) (watched_all base others)
+is_watched false base watched others on off = subst (IsWatched base) (sym (off refl)) refl
+
 -- ---- rows stay taken through a poll
 
 event_taken : (rows : List Row) (at key : ℕ) (row : Row) → row.is_taken ≡ (row_at rows at).is_taken →
@@ -111,7 +123,7 @@ among_last place other xs same =
 
 module _ {N C S : Type 0} (transition : N → NetworkCall C → N → Type 0) (time : Option Duration) (woken more : List ℕ)
     (network polled_network new_network : N) (before watched polled first second third last : Table) (given left : List ℕ)
-    (control : Control S) (is_watched : IsWatched before watched)
+    (control : Control S) (same_watched : IsWatched before watched)
     (polls : PollsPlaces transition time woken network watched polled_network polled) (forgets : first ≡ unwatched polled)
     (advances : KeepsClosingRows first given second left) (orders : ChangesRows (IsControlRow second) second third)
     (watches : last ≡ watching_control third control) (rows : AreRowsOf before given) where
@@ -124,9 +136,6 @@ module _ {N C S : Type 0} (transition : N → NetworkCall C → N → Type 0) (t
     reading = latest before.reading polls.polls.reading;
     rows = with_events before.rows news;
   }
-
-  same_watched : watched ≡ record before { watched_work = watched.watched_work; watched_due = watched.watched_due }
-  same_watched = is_watched
 
   polled_is : polled ≡ record polls.reported { deadlines = polled.deadlines; due = polled.due }
   polled_is = polls.same

@@ -18,17 +18,6 @@ use Rattle.daide_sockets.specs.Table.{Table, WakesPlaces, AreBounded, changed, d
 use Rattle.daide_sockets.specs.Table.{with_event, with_events}
 use Rattle.daide_sockets.specs.Times.{is_past}
 
--- ---- new tables
-
-pub one_more : {X : Type 0} (n : ℕ) (x : X) → replicate n x ++ x ∷ [] ≡ replicate (n + 1) x
-one_more n x = replicate-append-replicate n 1 x
-
-pub none_due : (places place : ℕ) → IsNotBefore None (deadline_in (slice_get (replicate places None) place))
-none_due zero zero = tt
-none_due zero (suc place) = tt
-none_due (suc places) zero = tt
-none_due (suc places) (suc place) = none_due places place
-
 -- ---- deadlines
 
 -- the deadline at a position of a list
@@ -66,25 +55,6 @@ past_end deadlines place le = ap (λ (d : Option (Option Instant)). deadline_in 
 read_due : (deadlines : List (Option Instant)) (place : ℕ) → place < length deadlines →
     due_at deadlines place ≡ get_or deadlines place None
 read_due deadlines place lt = ap (λ (d : Option (Option Instant)). deadline_in d) (slice_get-get_or deadlines place None lt)
-
--- one more deadline is forgotten
-pub forgot_more : (deadlines : List (Option Instant)) (place : ℕ) → ((k : ℕ) → k < place → due_at deadlines k ≡ None) →
-    (k : ℕ) → k < place + 1 → due_at (slice_set deadlines place None) k ≡ None
-forgot_more deadlines place before k few = by (k == place) refl
-  where
-    by : (here : Bool) → (k == place) ≡ here → due_at (slice_set deadlines place None) k ≡ None
-    by true e = ap (λ (n : ℕ). due_at (slice_set deadlines place None) n) (eqb-true k place e) ∙ set_here deadlines place
-    by false e =
-        let far : k ≢ place = eqb-false k place e in
-        set_elsewhere deadlines place k None far ∙ before k (omega (arith, far, few))
-
-pub forgot_all : (deadlines : List (Option Instant)) (end : ℕ) → length deadlines ≤ end →
-    ((k : ℕ) → k < end → due_at deadlines k ≡ None) → (k : ℕ) → due_at deadlines k ≡ None
-forgot_all deadlines end le before k = by (nat_lt k end) refl
-  where
-    by : (inside : Bool) → nat_lt k end ≡ inside → due_at deadlines k ≡ None
-    by true e = before k (ltb-true k end e)
-    by false e = let past = ltb-false k end e in past_end deadlines k (omega (arith, le, past))
 
 -- ---- moments
 
@@ -247,16 +217,6 @@ pub record AreWoken (now : Option Instant) (place : ℕ) (start : List (Option I
       (due_at deadlines k ≡ due_at start k) × (is_past now (due_at start k) ≡ false)
   pub rest : (k : ℕ) → place ≤ k → due_at deadlines k ≡ due_at start k
   pub bounded : (k : ℕ) → k < place → IsNotBefore nearest (due_at deadlines k)
-
-pub none_woken : (now : Option Instant) (start : List (Option Instant)) (queue : ReadyView) →
-    AreWoken now 0 start queue start queue None
-none_woken now start queue = record {
-  late = [];
-  queued = refl;
-  asleep = λ k few. absurd (omega (arith, few));
-  rest = λ k le. refl;
-  bounded = λ k few. absurd (omega (arith, few));
-}
 
 -- one more is late, and is woken
 pub one_late : (now : Option Instant) (place : ℕ) (start deadlines : List (Option Instant)) (queue ready new : ReadyView)

@@ -4,7 +4,7 @@ use Rattle.std.specs.Prelude.{◌≡◌, ◌≤◌, ℕ, ◌+◌, ◌*◌, List,
 use Rattle.daide_io.specs.System.{SystemCall, Connects, Retires, TransitsBy}
 use Rattle.daide_io.specs.declared.system.Connect.TheVariants.{Ready, Failed}
 use Rattle.daide_io.specs.Streams.{StreamCall}
-use Rattle.daide_sockets.specs.Pairing.{Paired, RunSockets, Transits, pending_in}
+use Rattle.daide_sockets.specs.Pairing.{Paired, RunSockets, Transits, pending_connects}
 
 -- how many bots were joined to their connects, and delivered as ports
 abbrev pub bots_joined : {P : Type 0} → List (SystemCall P) → ℕ
@@ -27,7 +27,7 @@ sessions_retired (_ ∷ answers) = sessions_retired answers
 -- Each bot that came waits, was joined, or was given up. The streams that close are at most the bots that were given up,
 -- and the two of each session that was retired; and at most 256.
 pub record IsAccounted {P S : Type 0} (answers : List (SystemCall P)) (new : RunSockets S) : Type 0 where
-  pub bots : new.came ≡ pending_in new.arrivals + (bots_joined answers + bots_given_up answers)
+  pub bots : new.came ≡ pending_connects new.arrivals + (bots_joined answers + bots_given_up answers)
   pub closing : length new.closing.streams ≤ bots_given_up answers + 2 * sessions_retired answers
   pub few : length new.closing.streams ≤ 256
 
@@ -35,5 +35,5 @@ pub record IsAccounted {P S : Type 0} (answers : List (SystemCall P)) (new : Run
 abbrev pub SocketsAreAccounted : (P : Type 0) → {S : Type 0} → (S → Option (List ℕ)) → (S → Option (List ℕ)) →
     (S → Option (List StreamCall)) → Type 0
 SocketsAreAccounted P {S} to_give taken calls = (pair : P → Paired S) (old new : RunSockets S)
-    (answers : List (SystemCall P)) → old.came ≡ 0 → pending_in old.arrivals ≡ 0 → old.closing.streams ≡ [] →
+    (answers : List (SystemCall P)) → old.came ≡ 0 → pending_connects old.arrivals ≡ 0 → old.closing.streams ≡ [] →
     TransitsBy (Transits to_give taken calls pair) old answers new → IsAccounted answers new

@@ -3,7 +3,7 @@ use Rattle.std.specs.Prelude.{◌≡◌, ◌≤◌, ℕ, ◌+◌, nat_eq, List, 
 use Rattle.daide_io.specs.System.{SystemCall, Polls, Shows, Accepts, Connects, BeginsTurn, Rests, Retires, Notifies, TransitsBy}
 use Rattle.daide_io.specs.declared.system.Connect.TheVariants.{Ready, Failed, Pending}
 use Rattle.daide_io.specs.Streams.{StreamCall}
-use Rattle.daide_sockets.specs.Pairing.{Paired, RunSockets, Transits, pending_in}
+use Rattle.daide_sockets.specs.Pairing.{Paired, RunSockets, Transits, pending_connects}
 
 -- 1 if two numbers are the same, else 0
 abbrev pub one_if_same : ℕ → ℕ → ℕ
@@ -27,5 +27,5 @@ handed pair n (Notifies notice ∷ answers) = handed pair n answers
 abbrev pub SessionsComeOnce : (P : Type 0) → {S : Type 0} → (S → Option (List ℕ)) → (S → Option (List ℕ)) →
     (S → Option (List StreamCall)) → Type 0
 SessionsComeOnce P {S} to_give taken calls = (pair : P → Paired S) (old new : RunSockets S) (answers : List (SystemCall P))
-    (n : ℕ) → old.came ≡ 0 → pending_in old.arrivals ≡ 0 → TransitsBy (Transits to_give taken calls pair) old answers new →
+    (n : ℕ) → old.came ≡ 0 → pending_connects old.arrivals ≡ 0 → TransitsBy (Transits to_give taken calls pair) old answers new →
     handed pair n answers ≤ 1

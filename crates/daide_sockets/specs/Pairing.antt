@@ -58,17 +58,17 @@ sum_over number [] = 0
 sum_over number (arrival ∷ arrivals) = number arrival + sum_over number arrivals
 
 -- how many connects are pending
-abbrev pub pending_in : {S : Type 0} → List (Option (Arriving S)) → ℕ
-pending_in arrivals = sum_over one_if_arrives arrivals
+abbrev pub pending_connects : {S : Type 0} → List (Option (Arriving S)) → ℕ
+pending_connects arrivals = sum_over one_if_arrives arrivals
 
-abbrev pub is_free_in : {S : Type 0} → Option (Option (Arriving S)) → Bool
-is_free_in None = false
-is_free_in (Some None) = true
-is_free_in (Some (Some arrival)) = false
+abbrev pub is_vacant_in : {S : Type 0} → Option (Option (Arriving S)) → Bool
+is_vacant_in None = false
+is_vacant_in (Some None) = true
+is_vacant_in (Some (Some arrival)) = false
 
 -- this is a place, and no bot there has a pending connect
-abbrev pub is_free_place : {S : Type 0} → List (Option (Arriving S)) → ℕ → Bool
-is_free_place arrivals place = is_free_in (slice_get arrivals place)
+abbrev pub is_vacant : {S : Type 0} → List (Option (Arriving S)) → ℕ → Bool
+is_vacant arrivals place = is_vacant_in (slice_get arrivals place)
 
 -- ---- bots and their connects
 
@@ -169,7 +169,7 @@ ClosesBoth {S} to_give taken calls old pair new = (mid : ClosingList S)
 pub record Comes {S : Type 0} (old : RunSockets S) (place : ℕ) (new : RunSockets S) : Type 0 where
   pub arrival : Arriving S
   pub came : new.came ≡ old.came + 1
-  pub free : is_free_place old.arrivals place ≡ true
+  pub free : is_vacant old.arrivals place ≡ true
   pub arrivals : new.arrivals ≡ slice_set old.arrivals place (Some arrival)
   pub number : arrival.number ≡ new.came
   pub bot : IsFresh arrival.bot

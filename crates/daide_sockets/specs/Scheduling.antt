@@ -13,7 +13,7 @@ use Rattle.daide_sockets.specs.declared.ports.SocketPorts.{SocketPorts}
 use Rattle.daide_sockets.specs.Accepting.{is_bot_due, may_connect, AcceptsThenConnects}
 use Rattle.daide_sockets.specs.Beside.{listener_watched, others_watched}
 use Rattle.daide_sockets.specs.Lingering.{ClosingList, LooksAround, in_pass}
-use Rattle.daide_sockets.specs.Pairing.{Arriving, Paired, RunSockets, is_free_place, arrival_at, ClosesAt, ClosesBothAt, Transits}
+use Rattle.daide_sockets.specs.Pairing.{Arriving, Paired, RunSockets, is_vacant, arrival_at, ClosesAt, ClosesBothAt, Transits}
 use Rattle.daide_sockets.specs.KeptRows.{KeepsBeside}
 use Rattle.daide_sockets.specs.Rows.{AreRowsOf, closing_keys}
 use Rattle.daide_sockets.specs.Table.{Table, IsNoTime, deadline_at, key_of}
@@ -54,7 +54,7 @@ pair_of ports = record { number = ports.number; bot = ports.bot.stream; server =
 
 -- A bot may have this place, which has rows, and a number is left for it.
 abbrev pub HasRoomForBot : {N S : Type 0} → RunState N S → ℕ → Type 0
-HasRoomForBot state place = (place < length state.table.deadlines) × (is_free_place state.arrivals place ≡ true)
+HasRoomForBot state place = (place < length state.table.deadlines) × (is_vacant state.arrivals place ≡ true)
     × (state.acceptor.came < 4294967295)
 
 -- The listener is asked for a bot at a place: with room for it exactly one accept is made if it is due, and then only

@@ -14,7 +14,7 @@ ghost use Rattle.daide_sockets.specs.Accepting.{is_accept_made, is_bot_due, may_
 ghost use Rattle.daide_sockets.specs.Accepting.{AsksAtMostOnce, BringsNoBot, ConnectsFrom, TriesOn, GivesConnection, Pauses};
 ghost use Rattle.daide_sockets.specs.Beside.{listener_watched};
 ghost use Rattle.daide_sockets.specs.KeptRows.{ChangesRows};
-ghost use Rattle.daide_sockets.specs.Pairing.{ConnectsTo, StaysPending, IsFreshConnect, IsFresh, IsJoined, pending_in};
+ghost use Rattle.daide_sockets.specs.Pairing.{ConnectsTo, StaysPending, IsFreshConnect, IsFresh, IsJoined, pending_connects};
 ghost use Rattle.daide_sockets.specs.Present.{HasRoomForOne};
 ghost use Rattle.daide_sockets.specs.Table.{listener_key, merged, report_at, watching};
 ghost use Rattle.daide_sockets.specs.Timers.{BeginsAt, timers_of};
@@ -402,7 +402,7 @@ impl<'w, S: Drop> Model for PendingConnection<'w, S> {
 
 /// Returns how many connects are under way.
 pub(crate) fn pending_count<S: Drop>(arrivals: &[Option<PendingConnection<'_, S>>]) -> usize
-    ensures { result ≡ pending_in arrivals.now }
+    ensures { result ≡ pending_connects arrivals.now }
 {
     let mut count = 0;
     for arrival in arrivals {

@@ -3,7 +3,7 @@
 ghost use Rattle.std.specs.Prelude.{◌≡◌, ◌≢◌, IfErr, IfOk, IfSome, false, [], length};
 ghost use Rattle.daide_sockets.specs.Addresses.{AreAddressesOf, IsBindCause, IsLookUpError};
 ghost use Rattle.daide_sockets.specs.Lingering.{no_closing};
-ghost use Rattle.daide_sockets.specs.Pairing.{pending_in};
+ghost use Rattle.daide_sockets.specs.Pairing.{pending_connects};
 ghost use Rattle.daide_sockets.specs.Rows.{AreRowsOf, closing_keys};
 ghost use Rattle.daide_sockets.specs.Table.{new_table};
 ghost use Rattle.daide_sockets.specs.Times.{IsSeconds, IsIdleTime};
@@ -143,7 +143,7 @@ pub fn sockets_on<'w, N: Network, E: Write + Drop>(
     errors: E,
 ) -> Option<Sockets<'w, N, E>>
     ensures none_came { IfSome result (λ sockets. (sockets.acceptor.came ≡ 0) × (sockets.is_verbose ≡ false)) }
-    ensures none_held { IfSome result (λ sockets. (pending_in sockets.arrivals.items ≡ 0)
+    ensures none_held { IfSome result (λ sockets. (pending_connects sockets.arrivals.items ≡ 0)
         × (sockets.closings ≡ no_closing sockets.stall_time)) }
     ensures im_time { IfSome result (λ sockets. IsSeconds settings.now.im_seconds sockets.im_time) }
     ensures idle_time { IfSome result (λ sockets. IsIdleTime settings.now.idle_seconds sockets.idle_time) }

@@ -17,7 +17,7 @@ ghost use Rattle.daide_sockets.specs.Finishing.{FinishesAll};
 ghost use Rattle.daide_sockets.specs.InTime.{watching_all};
 ghost use Rattle.daide_sockets.specs.Lines.{milliseconds_between};
 ghost use Rattle.daide_sockets.specs.Lingering.{LooksAround, in_pass, GoOnFor, no_closing};
-ghost use Rattle.daide_sockets.specs.Pairing.{Arriving, ClosesBothAt, TakesOut, pending_in};
+ghost use Rattle.daide_sockets.specs.Pairing.{Arriving, ClosesBothAt, TakesOut, pending_connects};
 ghost use Rattle.daide_sockets.specs.Present.{position_of, time_in, without_at};
 ghost use Rattle.daide_sockets.specs.Rows.{AreRowsOf, KeepsClosingRows, closing_keys};
 ghost use Rattle.daide_sockets.specs.Scheduling.{RunEvolves, run_state};
@@ -155,7 +155,7 @@ impl<'w, N: Network, E: Write + Drop> Sockets<'w, N, E> {
         errors: E,
     ) -> Option<Sockets<'w, N, E>>
         ensures none_came { IfSome result (λ sockets. (sockets.acceptor.came ≡ 0) × (sockets.is_verbose ≡ false)) }
-        ensures none_held { IfSome result (λ sockets. (pending_in sockets.arrivals.items ≡ 0)
+        ensures none_held { IfSome result (λ sockets. (pending_connects sockets.arrivals.items ≡ 0)
             × (sockets.closings ≡ no_closing sockets.stall_time)) }
         ensures room { IfSome result (λ sockets. (length sockets.arrivals.items ≡ settings.now.max_sessions)
             × (length sockets.poller.table.deadlines ≡ length ground.entry.2.deadlines)) }
@@ -540,9 +540,9 @@ impl<'w, N: Network, E: Write + Drop> System<SocketPorts<'w, N::Connection>> for
             (run_state (self.new.poller.network, self.new.poller.table) (self.new.idle_time, self.new.stall_time) self.new.acceptor
             self.new.arrivals.items self.new.closings) }
         ensures unreached { result ≡ Connect.Failed → self.old.control.stops_now ≡ false →
-            (arrival : Arriving N.Connection) × (mid : N) × TakesOut self.old.arrivals.items place arrival self.new.arrivals.items
-            × IsUnreached N.transition self.old.servers.now self.old.poller.table.reading arrival.gives_up arrival.tried mid
-            self.new.poller.network }
+            (arrival : Arriving N.Connection) × (tried : N) × TakesOut self.old.arrivals.items place arrival self.new.arrivals.items
+            × IsUnreached N.transition self.old.servers.now self.old.poller.table.reading arrival.gives_up arrival.tried
+            self.old.poller.network tried }
         ensures same { self.new ≡ record self.old {
           poller = self.new.poller;
           arrivals = self.new.arrivals;

@@ -8,7 +8,7 @@ ghost use Rattle.daide_frame.specs.declared.side.Side.TheVariants.{Server};
 ghost use Rattle.daide_settings.specs.Ranges.{host_of, may_come};
 ghost use Rattle.daide_sockets.specs.Accepting.{is_bot_due, AcceptsThenConnects, BringsNoBot, IsUnreached, GivesConnection};
 ghost use Rattle.daide_sockets.specs.KeptRows.{ChangesRows, IsAcceptRow};
-ghost use Rattle.daide_sockets.specs.Pairing.{Arriving, ClosesAt, Comes, ComesWith, TakesOut, arrival_at, is_free_place};
+ghost use Rattle.daide_sockets.specs.Pairing.{Arriving, ClosesAt, Comes, ComesWith, TakesOut, arrival_at, is_vacant};
 ghost use Rattle.daide_sockets.specs.Present.{HasRoomForOne, IsAllowed, IsPresentWith, position_of, without_at};
 ghost use Rattle.daide_sockets.specs.Rows.{KeepsClosingRows, closing_keys};
 ghost use Rattle.daide_sockets.specs.Scheduling.{RunEvolves, run_state};
@@ -107,7 +107,7 @@ impl<'w, N: Network, E: Write + Drop> Sockets<'w, N, E> {
     /// Returns whether a bot may have this place: it has rows, and no connect is under way there.
     fn has_place(&self, place: usize) -> bool
         ensures free { result ≡ (nat_lt place (length self.now.poller.table.deadlines)
-            && is_free_place self.now.arrivals.items place) }
+            && is_vacant self.now.arrivals.items place) }
         ensures rows { result ≡ true → (place < length self.now.poller.table.deadlines)
             × (key_of place Server ≤ usize.MAX) }
     {
@@ -128,9 +128,9 @@ impl<'w, N: Network, E: Write + Drop> Sockets<'w, N, E> {
             (run_state (self.new.poller.network, self.new.poller.table) (self.new.idle_time, self.new.stall_time) self.new.acceptor
             self.new.arrivals.items self.new.closings) }
         ensures unreached { result ≡ Connect.Failed → self.old.control.stops_now ≡ false →
-            (arrival : Arriving N.Connection) × (mid : N) × TakesOut self.old.arrivals.items place arrival self.new.arrivals.items
-            × IsUnreached N.transition self.old.servers.now self.old.poller.table.reading arrival.gives_up arrival.tried mid
-            self.new.poller.network }
+            (arrival : Arriving N.Connection) × (tried : N) × TakesOut self.old.arrivals.items place arrival self.new.arrivals.items
+            × IsUnreached N.transition self.old.servers.now self.old.poller.table.reading arrival.gives_up arrival.tried
+            self.old.poller.network tried }
         ensures same { self.new ≡ record self.old {
           poller = self.new.poller;
           arrivals = self.new.arrivals;
@@ -199,22 +199,22 @@ impl<'w, N: Network, E: Write + Drop> Sockets<'w, N, E> {
         ensures none { IfNone result ((self.new.acceptor.came ≡ self.old.acceptor.came)
             × (self.new.arrivals.items ≡ self.old.arrivals.items) × (self.new.closings ≡ self.old.closings)) }
         ensures made { place < length self.old.poller.table.deadlines →
-            is_free_place self.old.arrivals.items place ≡ true →
+            is_vacant self.old.arrivals.items place ≡ true →
             self.old.acceptor.came < u32.MAX → is_bot_due self.old.poller.table self.old.acceptor ≡ true →
             AcceptsThenConnects N.transition self.old.servers.now self.old.poller.network self.new.poller.network }
         ensures not_made { (place < length self.old.poller.table.deadlines →
-            is_free_place self.old.arrivals.items place ≡ true →
+            is_vacant self.old.arrivals.items place ≡ true →
             self.old.acceptor.came < u32.MAX → is_bot_due self.old.poller.table self.old.acceptor ≡ false) →
             self.new.poller.network ≡ self.old.poller.network }
         ensures kept { IfNone result (place < length self.old.poller.table.deadlines →
-            is_free_place self.old.arrivals.items place ≡ true →
+            is_vacant self.old.arrivals.items place ≡ true →
             self.old.acceptor.came < u32.MAX → is_bot_due self.old.poller.table self.old.acceptor ≡ true → HasRoomForOne self.old.present →
             BringsNoBot N.transition (λ address. may_come self.old.allow.now self.old.max_per_address
             self.old.present.hosts.items (host_of (socket_ip address))) self.old.poller.network
             self.new.poller.network) }
         ensures awaited { self.new.acceptor.awaits_bots ≡ true }
         ensures left { IfNone result (place < length self.old.poller.table.deadlines →
-            is_free_place self.old.arrivals.items place ≡ true →
+            is_vacant self.old.arrivals.items place ≡ true →
             self.old.acceptor.came < u32.MAX → is_bot_due self.new.poller.table self.new.acceptor ≡ true →
             GivesConnection N.transition self.old.poller.network) }
         ensures times { IfSome result (λ _. ComesWith self.old.arrivals.items place self.old.poller.table.reading

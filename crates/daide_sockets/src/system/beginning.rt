@@ -2,7 +2,7 @@
 
 ghost use Rattle.std.specs.Prelude.{◌≡◌, IfOk, IfSome, false, [], length};
 ghost use Rattle.daide_sockets.specs.Lingering.{no_closing};
-ghost use Rattle.daide_sockets.specs.Pairing.{pending_in};
+ghost use Rattle.daide_sockets.specs.Pairing.{pending_connects};
 
 use crate::admission::{Acceptor, PendingConnection};
 use crate::control::Control;
@@ -30,7 +30,7 @@ fn no_arrivals<'w, S: Duplex + Drop>(
     alloc: Global,
     places: usize,
 ) -> Result<Vec<Option<PendingConnection<'w, S>>>, AllocError>
-    ensures { IfOk result (λ arrivals. (pending_in arrivals.items ≡ 0) × (length arrivals.items ≡ places)) }
+    ensures { IfOk result (λ arrivals. (pending_connects arrivals.items ≡ 0) × (length arrivals.items ≡ places)) }
 {
     let mut arrivals = Vec::with_capacity(alloc, places)?;
     for _place in 0..places {
@@ -47,7 +47,7 @@ impl<'w, S: Duplex + Drop> RunLists<'w, S> {
         max_sessions: usize,
         stall_time: Option<Duration>,
     ) -> Option<RunLists<'w, S>>
-        ensures none_held { IfSome result (λ lists. (pending_in lists.arrivals.items ≡ 0)
+        ensures none_held { IfSome result (λ lists. (pending_connects lists.arrivals.items ≡ 0)
             × (lists.closings ≡ no_closing stall_time)) }
         ensures room { IfSome result (λ lists. length lists.arrivals.items ≡ max_sessions) }
         ensures none_present { IfSome result (λ lists. (lists.present.numbers.items ≡ []) × (lists.present.hosts.items ≡ [])

@@ -6,7 +6,7 @@ ghost use Rattle.daide_status.specs.declared.snapshot.RunStatus.{RunStatus};
 ghost use Rattle.daide_sockets.specs.Accepting.{is_bot_due};
 ghost use Rattle.daide_sockets.specs.ControlSlots.{BeginsRound, IsControlRow, places, watching_control};
 ghost use Rattle.daide_sockets.specs.KeptRows.{ChangesRows};
-ghost use Rattle.daide_sockets.specs.Pairing.{pending_in};
+ghost use Rattle.daide_sockets.specs.Pairing.{pending_connects};
 ghost use Rattle.daide_sockets.specs.Snapshot.{counted, seconds_between, or_zero, IsRunStatus};
 ghost use Rattle.daide_sockets.specs.Table.{Table};
 ghost use Rattle.daide_sockets.specs.Wakeups.{GoesUnpolled};
@@ -29,7 +29,7 @@ impl<'w, N: Network, E: Write + Drop> Sockets<'w, N, E> {
     /// Returns the status of the run.
     fn run_status(&self) -> RunStatus
         ensures { IsRunStatus self.now.acceptor.came (length self.now.present.numbers.items)
-            (pending_in self.now.arrivals.items) self.now.unreached
+            (pending_connects self.now.arrivals.items) self.now.unreached
             (nat_le self.now.max_sessions (length self.now.present.numbers.items)
             && is_bot_due self.now.poller.table self.now.acceptor) self.now.control.stops_accepting
             (or_zero (seconds_between self.now.control.started_at self.now.poller.table.reading)) result }
@@ -74,7 +74,7 @@ impl<'w, N: Network, E: Write + Drop> Sockets<'w, N, E> {
     /// Advances the control socket, with the status of the run, and returns the operator's orders.
     fn begin_control(&mut self) -> Orders
         ensures control { (run : RunStatus) × IsRunStatus self.old.acceptor.came
-            (length self.old.present.numbers.items) (pending_in self.old.arrivals.items) self.old.unreached
+            (length self.old.present.numbers.items) (pending_connects self.old.arrivals.items) self.old.unreached
             (nat_le self.old.max_sessions (length self.old.present.numbers.items)
             && is_bot_due self.old.poller.table self.old.acceptor) self.old.control.stops_accepting
             (or_zero (seconds_between self.old.control.started_at self.old.poller.table.reading)) run
@@ -101,7 +101,7 @@ impl<'w, N: Network, E: Write + Drop> Sockets<'w, N, E> {
         ensures kept { self.old.control.stops_accepting ≡ true → self.new.control.stops_accepting ≡ true }
         ensures now_kept { self.old.control.stops_now ≡ true → self.new.control.stops_now ≡ true }
         ensures control { (run : RunStatus) × IsRunStatus self.old.acceptor.came
-            (length self.old.present.numbers.items) (pending_in self.old.arrivals.items) self.old.unreached
+            (length self.old.present.numbers.items) (pending_connects self.old.arrivals.items) self.old.unreached
             (nat_le self.old.max_sessions (length self.old.present.numbers.items)
             && is_bot_due self.old.poller.table self.old.acceptor) self.old.control.stops_accepting
             (or_zero (seconds_between self.old.control.started_at self.old.poller.table.reading)) run

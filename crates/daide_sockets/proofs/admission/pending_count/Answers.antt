@@ -1,6 +1,6 @@
 use Rattle.std.proofs.Common.{◌≡◌, ℕ, ◌+◌, ◌≤◌, ◌<◌, List, Option, drop, ap, length, arith}
 use Rattle.std.proofs.lemmas.List.{drop_all}
-use Rattle.daide_sockets.specs.Pairing.{Arriving, pending_in}
+use Rattle.daide_sockets.specs.Pairing.{Arriving, pending_connects}
 use Rattle.daide_sockets.proofs.PairingLemmas.{counts_next}
 use Rattle.daide_sockets.proofs.admission.pending_count.Goals as goal
 use Rattle.daide_sockets.proofs.admission.pending_count.Goals.{then-is_some, else-is_some}
@@ -21,7 +21,7 @@ loop-arrival-preserved g c =
 pub returns : goal.returns
 returns g c =
     let counted = c.loop-arrival.invariant.counted in
-    let rest : pending_in (drop c.loop-arrival.arrival-index c.args.arrivals.now) ≡ 0 =
-    ap (λ (l : List (Option (Arriving g.row.S.Denot))). pending_in l)
+    let rest : pending_connects (drop c.loop-arrival.arrival-index c.args.arrivals.now) ≡ 0 =
+    ap (λ (l : List (Option (Arriving g.row.S.Denot))). pending_connects l)
     (drop_all c.loop-arrival.arrival-index c.args.arrivals.now c.loop-arrival-test.false) in
     omega (arith, counted, rest)

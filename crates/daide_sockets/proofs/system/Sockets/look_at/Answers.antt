@@ -3,6 +3,7 @@ use Rattle.std.specs.declared.time.Instant.{Instant}
 use Rattle.daide_frame.specs.declared.side.Side.TheVariants.{Bot, Server}
 use Rattle.daide_buffered_io.specs.declared.readiness.Readiness.{Readiness}
 use Rattle.daide_sockets.specs.Table.{Table, key_of, merged, report_at}
+use Rattle.daide_sockets.proofs.AcceptLemmas.{unreached}
 use Rattle.daide_sockets.proofs.ConnectLemmas.{connected_joins, connected_reports, rests_for, rests_unchanged}
 use Rattle.daide_sockets.proofs.KeptRowLemmas.{changes_none, connect_beside, connect_bot, connect_holds, connect_kept, connect_others}
 use Rattle.daide_sockets.proofs.KeptRowLemmas.{failed_beside, failed_holds, failed_others, failed_places, rested_holds, rested_places, same_deadlines}
@@ -145,3 +146,13 @@ returns-in-Err-clause-transition g c =
       (_, closes),
       failed_beside _ _ _ c.args.place _ _ _ lt key looked.table rows held,
     ))
+
+pub returns-in-Err-clause-unreached : goal.returns-in-Err-clause-unreached
+returns-in-Err-clause-unreached g c = λ failed off.
+    let looked = rw c.take_arrival-arrival.ensures.same at c.advances.ensures in
+    rw (c.let_go-in-Err.ensures.same, c.take_arrival-arrival.ensures.same) (
+      c.in-Some.arrival,
+      c.advances.new.poller.network,
+      c.in-Some.ensures.some,
+      unreached g.N.Network.transition _ _ _ _ _ _ _ (λ early. looked.all early c.in-Err.ensures.unreached.2) looked.tries,
+    )
