@@ -10,7 +10,6 @@ pub mod DeadlineLemmas
 pub mod OverdueLemmas
 pub mod StayLemmas
 pub mod RoomLemmas
-pub mod RunRowLemmas
 pub mod FinishTimeLemmas
 mod LawFacts
 pub mod RestLemmas

@@ -1,5 +1,5 @@
 -- No wake-up is lost: what each session of a run over sockets waits for while a poll may block. (own)
-use Rattle.std.specs.Prelude.{◌≡◌, ◌⊎◌, ℕ, ◌-◌, ◌<◌, ◌++◌, Bool, true, false, List, [], ◌∷◌, length, Option, Some, All}
+use Rattle.std.specs.Prelude.{◌≡◌, ◌⊎◌, ℕ, suc, ◌-◌, ◌<◌, Bool, true, false, List, [], ◌∷◌, length, Option, Some}
 use Rattle.std.specs.Time.{instant_nanos}
 use Rattle.std.specs.declared.time.Duration.{Duration}
 use Rattle.std.specs.declared.time.Instant.{Instant}
@@ -11,10 +11,11 @@ use Rattle.daide_io.specs.Streams.{StreamCall}
 use Rattle.daide_io.specs.System.{SystemCall, Polls, TransitsBy}
 use Rattle.daide_io.specs.declared.system.Orders.{Orders}
 use Rattle.daide_driver.specs.declared.place.SlabPlace.{SlabPlace}
-use Rattle.daide_driver.specs.Slab.{IfHeldAt}
+use Rattle.daide_driver.specs.declared.place.SlabPlace.TheVariants.{Free}
+use Rattle.daide_driver.specs.Slab.{IfHeldAt, IsAt}
 use Rattle.daide_settings.specs.declared.settings.Settings.{Settings}
 use Rattle.daide_event_loop.specs.QuotaPorts.{QuotaPortsView}
-use Rattle.daide_event_loop.specs.Serving.{ServiceView, Round, Rounds, initial_service, is_done, may_accept, heeding}
+use Rattle.daide_event_loop.specs.Serving.{ServiceView, Round, Rounds, initial_service, is_done, have_all_come}
 use Rattle.daide_buffered_io.specs.Streams.{stream_of}
 use Rattle.daide_sockets.specs.declared.socket.Socket.{Socket}
 use Rattle.daide_sockets.specs.InTime.{IsAtMost}
@@ -63,12 +64,14 @@ NoWakeupIsLost {P} {S} {N} port_transition view calls transition = (settings : S
     TransitsBy (Wakes transition calls view) first before old → Wakes transition calls view old (Polls true woken orders) new →
     PollsAsleep transition view run.slab.places woken old new
 
--- Take a round of a run over sockets that ends with a wait, and in which one more bot may be accepted. The wait takes no
--- time while an accept is due; `timers` is the content of ports.
+-- Take a poll of a run over sockets that may block, after one round or more, while one more bot may be accepted and a place is
+-- free. The poll takes no time while an accept is due; `timers` is the content of ports.
 abbrev pub NoBotWaits : {P S N C : Type 0} → (P → PortCall → P → Type 0) → (P → SessionTimers S) →
     (N → NetworkCall C → N → Type 0) → Type 0
-NoBotWaits {P} {S} {N} port_transition timers transition = (before round : List (SystemCall P)) (mid run : ServiceView P)
-    (first old new : RunState N S) → (rounds : Round port_transition mid (round ++ Waits ∷ []) run) →
-    may_accept (heeding rounds.orders mid.counters) (length mid.hub.places) ≡ true →
-    TransitsBy (Schedules transition timers) first (before ++ round) old → Schedules transition timers old Waits new →
-    AwaitsBots transition old new
+NoBotWaits {P} {S} {N} port_transition timers transition = (settings : Settings) (n : ℕ)
+    (before others : List (SystemCall P)) (woken : List ℕ) (orders : Orders) (run next : ServiceView P) (place : ℕ)
+    (first old new : RunState N S) → Rounds port_transition (suc n) (initial_service settings) before run →
+    have_all_come run.counters ≡ false → IsAt run.slab place Free →
+    Round port_transition run (Polls true woken orders ∷ others) next →
+    TransitsBy (Schedules transition timers) first before old →
+    Schedules transition timers old (Polls true woken orders) new → AwaitsBots transition true woken old new
