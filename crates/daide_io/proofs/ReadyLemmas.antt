@@ -102,7 +102,7 @@ length_both : (one other : List ℕ) → length (one ++ other) ≡ length one + 
 length_both [] other = omega arith
 length_both (x ∷ one) other = omega (arith, length_both one other)
 
-occurrences_both : (k : ℕ) (one other : List ℕ) →
+pub occurrences_both : (k : ℕ) (one other : List ℕ) →
     occurrences_of k (one ++ other) ≡ occurrences_of k one + occurrences_of k other
 occurrences_both k [] other = omega arith
 occurrences_both k (x ∷ one) other = omega (arith, occurrences_both k one other)

@@ -3,15 +3,17 @@ use Rattle.std.proofs.Common.{◌≡◌, ◌≤◌, ◌⊎◌, ℕ, ◌+◌, suc
 use Rattle.std.specs.declared.io.Error.{Error}
 use Rattle.std.specs.declared.net.socket_addr.SocketAddr.{SocketAddr}
 use Rattle.daide_io.specs.Network.{NetworkCall, AcceptsConnection, Follows}
-use Rattle.std.specs.Prelude.{◌||◌, slice_get}
+use Rattle.std.specs.Prelude.{◌&&◌, ◌||◌, not, slice_get}
 use Rattle.std.specs.declared.time.Instant.{Instant}
 use Rattle.daide_buffered_io.specs.declared.readiness.Readiness.{Readiness}
-use Rattle.daide_sockets.specs.Accepting.{is_accept_made, is_accept_due, accept_pause, connection_given}
+use Rattle.daide_sockets.specs.declared.admission.Acceptor.{Acceptor}
+use Rattle.daide_sockets.specs.Accepting.{is_accept_made, is_accept_due, is_bot_due, accept_pause, connection_given}
 use Rattle.daide_sockets.specs.Accepting.{AcceptsOnce, AcceptsOneBot, BringsNoBot, FollowsAtMostOnce, FollowsAccepted, ConnectsOnce, ConnectsFrom}
-use Rattle.daide_sockets.specs.Accepting.{Fails, MayNotCome, HasNoRow, IsRefused, TriesOn, IsUnreached, IsLate, TriedAll}
-use Rattle.daide_sockets.specs.Table.{Table, IsFull, report_at, without_report}
+use Rattle.daide_sockets.specs.Accepting.{Fails, MayNotCome, IsRefused, TriesOn, IsUnreached, IsLate, TriedAll}
+use Rattle.daide_sockets.specs.Table.{Table, freed, listener_key, report_at, without_report}
+use Rattle.daide_sockets.specs.KeptRows.{ChangesRows}
 use Rattle.daide_sockets.specs.Times.{IsAfter, is_past}
-use Rattle.daide_sockets.proofs.TableLemmas.{report_taken}
+use Rattle.daide_sockets.proofs.KeptRowLemmas.{changes_more, changes_then, freed_changes, report_cleared}
 
 -- the end of a pause that began at a reading is not past
 not_past : (now : Option Instant) (moment : Instant) → IsAfter now accept_pause (Some moment) →
@@ -30,16 +32,39 @@ or_false : (b : Bool) → (b || false) ≡ b
 or_false true = refl
 or_false false = refl
 
+no_accept : (is_open : Bool) → (is_open && false) ≡ false
+no_accept true = refl
+no_accept false = refl
+
 -- a report that was taken makes none due
-pub taken_not_due : (old new : Table) (key same : ℕ) (known : Readiness) (resumes_at now : Option Instant) →
-    new ≡ without_report old key → same ≡ key → now ≡ new.reading → is_accept_made now known.may_read resumes_at ≡ false →
-    is_accept_due new same known resumes_at ≡ false
-taken_not_due old new key same known resumes_at now taken is reading none =
-    let report = ap (λ (k : ℕ). report_at new k) is ∙ ap (λ (t : Table). report_at t key) taken
-    ∙ report_taken old.rows key in
-    ap (λ (r : Option Instant). is_accept_made r (known.may_read || (report_at new same).may_read) resumes_at) (sym reading)
-    ∙ ap (λ (r : Readiness). is_accept_made now (known.may_read || r.may_read) resumes_at) report
-    ∙ ap (λ (b : Bool). is_accept_made now b resumes_at) (or_false known.may_read) ∙ none
+pub taken_not_due : (old new : Table) (key : ℕ) (acceptor : Acceptor) (now : Option Instant) → new ≡ without_report old key →
+    key ≡ listener_key old → now ≡ new.reading → is_accept_made now acceptor.readiness.may_read acceptor.resumes_at ≡ false →
+    is_bot_due new acceptor ≡ false
+taken_not_due old new key acceptor now taken is reading none =
+    let own : listener_key new ≡ key = ap (λ (t : Table). listener_key t) taken ∙ sym is in
+    let known = acceptor.readiness in
+    let report = ap (λ (k : ℕ). report_at new k) own ∙ ap (λ (t : Table). report_at t key) taken
+    ∙ report_cleared old.rows key in
+    let due : is_accept_due new (listener_key new) known acceptor.resumes_at ≡ false =
+    ap (λ (r : Option Instant). is_accept_made r (known.may_read || (report_at new (listener_key new)).may_read) acceptor.resumes_at)
+    (sym reading)
+    ∙ ap (λ (r : Readiness). is_accept_made now (known.may_read || r.may_read) acceptor.resumes_at) report
+    ∙ ap (λ (b : Bool). is_accept_made now b acceptor.resumes_at) (or_false known.may_read) ∙ none in
+    ap (λ (b : Bool). not acceptor.is_closed && b) due ∙ no_accept (not acceptor.is_closed)
+
+-- ---- rows
+
+-- an accept changes the row of the listener alone
+pub listened : (old new : Table) (key : ℕ) → ChangesRows (λ row. row ≡ listener_key old) old new →
+    ChangesRows (λ row. (row ≡ listener_key old) ⊎ (row ≡ key)) old new
+listened old new key h = changes_more (λ row. row ≡ listener_key old) (λ row. (row ≡ listener_key old) ⊎ (row ≡ key)) old new (λ row is. inl is) h
+
+-- and then that of the connection is cleared
+pub listened_followed : (old mid new : Table) (key : ℕ) → ChangesRows (λ row. row ≡ listener_key old) old mid →
+    new ≡ freed mid key → ChangesRows (λ row. (row ≡ listener_key old) ⊎ (row ≡ key)) old new
+listened_followed old mid new key h e =
+    changes_then (λ row. (row ≡ listener_key old) ⊎ (row ≡ key)) old mid new (listened old mid key h)
+    (changes_more (λ row. row ≡ key) (λ row. (row ≡ listener_key old) ⊎ (row ≡ key)) mid new (λ row is. inr is) (freed_changes mid new key e))
 
 module _ {N C : Type 0} (transition : N → NetworkCall C → N → Type 0) where
   -- no call was made but one by which the given connection is followed
@@ -81,24 +106,22 @@ module _ {N C : Type 0} (transition : N → NetworkCall C → N → Type 0) wher
       transition old (AcceptsConnection (Ok came)) mid
   accepts came old mid once = rw (accepted_is once.accepted came once.given) at once.call
 
-  module _ (may_come : SocketAddr → Bool) (old mid : N) (table : Table) where
+  module _ (may_come : SocketAddr → Bool) (old mid : N) where
     failed : (accepted : Result (C × SocketAddr) Error) → transition old (AcceptsConnection accepted) mid →
-        None ≡ connection_given accepted → BringsNoBot transition may_come old table mid
+        None ≡ connection_given accepted → BringsNoBot transition may_come old mid
     failed (Ok came) call h = absurd (cc)
     failed (Err error) call h = Fails error call
 
-    pub brings_none : AcceptsOnce transition old mid None → BringsNoBot transition may_come old table mid
+    pub brings_none : AcceptsOnce transition old mid None → BringsNoBot transition may_come old mid
     brings_none once = failed once.accepted once.call once.given
 
     pub brings_declined : (came : C × SocketAddr) → AcceptsOnce transition old mid (Some came) → may_come came.1 ≡ false →
-        BringsNoBot transition may_come old table mid
+        BringsNoBot transition may_come old mid
     brings_declined came once declined = MayNotCome came (accepts came old mid once) declined
 
-    pub brings_refused : (came : C × SocketAddr) (new : N) → AcceptsOnce transition old mid (Some came) →
-        IsFull table ⊎ (key : ℕ) × (after : C) × transition mid (Follows came.0 key false after) new →
-        BringsNoBot transition may_come old table new
-    brings_refused came new once (inl full) = HasNoRow full
-    brings_refused came new once (inr h) = IsRefused came mid h.0 h.1 (accepts came old mid once) h.2
+    pub brings_refused : (came : C × SocketAddr) (new : N) (key : ℕ) (after : C) → AcceptsOnce transition old mid (Some came) →
+        transition mid (Follows came.0 key false after) new → BringsNoBot transition may_come old new
+    brings_refused came new key after once h = IsRefused came mid key after (accepts came old mid once) h
 
   -- ---- a connect that is given up
 

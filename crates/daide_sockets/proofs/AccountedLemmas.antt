@@ -1,18 +1,17 @@
 -- Each bot and each closing stream is counted along the calls of a run.
-use Rattle.std.proofs.Common.{◌≡◌, ◌≤◌, ℕ, suc, ◌+◌, ◌-◌, ◌*◌, Bool, true, false, List, [], ◌∷◌, ◌++◌, length, Option, refl, ap, arith}
+use Rattle.std.proofs.Common.{◌≡◌, ◌≤◌, ℕ, suc, ◌+◌, ◌-◌, ◌*◌, Bool, true, false, List, [], ◌∷◌, ◌++◌, length, Option, Some, refl, ap, arith}
 use Rattle.std.proofs.Common.{inl, inr}
 use Rattle.std.specs.Prelude.{nat_lt, nat_eq, if◌then◌else◌, remove}
 use Rattle.std.proofs.lemmas.List.{length-append}
 use Rattle.std.specs.declared.time.Instant.{Instant}
 use Rattle.daide_buffered_io.specs.Buffers.{Buffer}
-use Rattle.daide_io.specs.System.{SystemCall, Begins, Shows, ReportsNews, BeginsTurn, Watches, Accepts, Connects, Retires}
-use Rattle.daide_io.specs.System.{Notifies, Waits, TransitsBy}
+use Rattle.daide_io.specs.System.{SystemCall, Polls, Shows, Accepts, Connects, BeginsTurn, Rests, Retires, Notifies, TransitsBy}
 use Rattle.daide_io.specs.declared.system.Connect.TheVariants.{Ready, Failed, Pending}
 use Rattle.daide_io.specs.Streams.{StreamCall}
 use Rattle.daide_sockets.specs.Accounted.{bots_joined, bots_given_up, sessions_retired, IsAccounted}
 use Rattle.daide_sockets.specs.Lingering.{ClosingStream, ClosingList, IsLookedAt, LooksAtEach, ClosingsGoOn, in_pass}
-use Rattle.daide_sockets.specs.Pairing.{Arriving, Paired, RunSockets, TakesOut, ClosesAt, Transits, with_room}
-use Rattle.daide_sockets.proofs.PairingLemmas.{pending_len, checked_len}
+use Rattle.daide_sockets.specs.Pairing.{Arriving, Paired, RunSockets, StaysPending, ClosesAt, Transits, one_if_arrives, pending_in, with_room}
+use Rattle.daide_sockets.proofs.PairingLemmas.{sum_in, sum_out, sum_stays}
 
 module _ {P S : Type 0} (to_give taken : S → Option (List ℕ)) (calls : S → Option (List StreamCall))
     (pair : P → Paired S) where
@@ -77,10 +76,10 @@ module _ {P S : Type 0} (to_give taken : S → Option (List ℕ)) (calls : S →
       by false e = let less = remove_len old.streams in (omega (arith, less), λ h. omega (arith, less, h))
 
   -- one closes more, and at most 256 do
-  closes_len : (reading : Option Instant) (old : ClosingList S) (key : ℕ) (stream : Buffer S) (new : ClosingList S) →
-      ClosesAt to_give taken calls reading old key stream new → (length new.streams ≤ length old.streams + 1)
+  closes_len : (reading : Option Instant) (old : ClosingList S) (stream : Buffer S) (new : ClosingList S) →
+      ClosesAt to_give taken calls reading old stream new → (length new.streams ≤ length old.streams + 1)
       × (length old.streams ≤ 256 → length new.streams ≤ 256)
-  closes_len reading old key stream new h =
+  closes_len reading old stream new h =
       let now : length new.streams ≡ length ((with_room old).streams ++ h.last ∷ []) = ap (λ (l : ClosingList S). length l.streams) h.now in
       let more = length-append (with_room old).streams (h.last ∷ []) in
       let room = room_len old in
@@ -91,19 +90,12 @@ module _ {P S : Type 0} (to_give taken : S → Option (List ℕ)) (calls : S →
 
   -- ---- the bots
 
-  taken_out_len : (old new : List (Arriving S)) (arrival : Arriving S) → TakesOut old arrival new →
-      length old ≡ length new + 1
-  taken_out_len old new arrival h =
-      let before : length old ≡ length (h.seen ++ arrival ∷ h.rest) = ap length h.split in
-      let after : length new ≡ length (h.rest ++ h.moved) = ap length h.now in
-      let a = length-append h.seen (arrival ∷ h.rest) in
-      let b = length-append h.rest h.moved in
-      let same = pending_len h.seen h.moved h.goes in
-      omega (arith, before, after, a, b, same)
+  stays : (before after : Arriving S) → StaysPending before after → one_if_arrives (Some after) ≡ one_if_arrives (Some before)
+  stays before after h = refl
 
   -- the effect of calls on what is counted
   pub record Counts (answers : List (SystemCall P)) (old new : RunSockets S) : Type 0 where
-    pub bots : new.came + length old.arrivals ≡ old.came + (length new.arrivals + (bots_joined answers + bots_given_up answers))
+    pub bots : new.came + pending_in old.arrivals ≡ old.came + (pending_in new.arrivals + (bots_joined answers + bots_given_up answers))
     pub closing : length new.closing.streams ≤ length old.closing.streams + (bots_given_up answers + 2 * sessions_retired answers)
     pub few : length old.closing.streams ≤ 256 → length new.closing.streams ≤ 256
 
@@ -111,7 +103,7 @@ module _ {P S : Type 0} (to_give taken : S → Option (List ℕ)) (calls : S →
       bots_given_up (answer ∷ []) ≡ 0 → Counts (answer ∷ []) old new
   same_counts answer old new e none no_other =
       let came : new.came ≡ old.came = ap (λ (s : RunSockets S). s.came) e in
-      let arrivals : length new.arrivals ≡ length old.arrivals = ap (λ (s : RunSockets S). length s.arrivals) e in
+      let arrivals : pending_in new.arrivals ≡ pending_in old.arrivals = ap (λ (s : RunSockets S). pending_in s.arrivals) e in
       let closing : length new.closing.streams ≡ length old.closing.streams =
       ap (λ (s : RunSockets S). length s.closing.streams) e in
       record {
@@ -122,9 +114,9 @@ module _ {P S : Type 0} (to_give taken : S → Option (List ℕ)) (calls : S →
 
   one : (answer : SystemCall P) (old new : RunSockets S) → Transits to_give taken calls pair old answer new →
       Counts (answer ∷ []) old new
-  one (Begins orders) old new h =
+  one (Polls may_block woken orders) old new h =
       let came = h.0 in
-      let arrivals : length new.arrivals ≡ length old.arrivals = ap length h.1 in
+      let arrivals : pending_in new.arrivals ≡ pending_in old.arrivals = ap pending_in h.1 in
       let fewer = round_len old.closing new.closing h.2 in
       record {
         bots = omega (arith, came, arrivals);
@@ -132,23 +124,21 @@ module _ {P S : Type 0} (to_give taken : S → Option (List ℕ)) (calls : S →
         few = λ few. omega (arith, fewer, few);
       }
   one (Shows ports status) old new h = same_counts (Shows ports status) old new h refl refl
-  one (ReportsNews ports news) old new h = same_counts (ReportsNews ports news) old new h refl refl
-  one (BeginsTurn before after) old new h = same_counts (BeginsTurn before after) old new h refl refl
-  one (Watches ports) old new h = same_counts (Watches ports) old new h refl refl
-  one (Accepts true) old new h =
+  one (BeginsTurn place before after) old new h = same_counts (BeginsTurn place before after) old new h refl refl
+  one (Rests place ports rests) old new h = same_counts (Rests place ports rests) old new h refl refl
+  one (Accepts place true) old new h =
       let came = h.came in
-      let arrivals : length new.arrivals ≡ length (old.arrivals ++ h.arrival ∷ []) = ap length h.arrivals in
-      let more = length-append old.arrivals (h.arrival ∷ []) in
+      let more = sum_in one_if_arrives old.arrivals new.arrivals place h.arrival refl h.free h.arrivals in
       let closing : length new.closing.streams ≡ length old.closing.streams =
       ap (λ (l : ClosingList S). length l.streams) h.closing in
       record {
-        bots = omega (arith, came, arrivals, more);
+        bots = omega (arith, came, more);
         closing = omega (arith, closing);
         few = λ few. omega (arith, closing, few);
       }
-  one (Accepts false) old new h = same_counts (Accepts false) old new h refl refl
-  one (Connects (Ready ports)) old new h =
-      let out = taken_out_len old.arrivals new.arrivals h.0 h.1 in
+  one (Accepts place false) old new h = same_counts (Accepts place false) old new h refl refl
+  one (Connects place (Ready ports)) old new h =
+      let out = sum_out one_if_arrives old.arrivals new.arrivals place h.0 refl h.1 in
       let came = h.3 in
       let closing : length new.closing.streams ≡ length old.closing.streams =
       ap (λ (l : ClosingList S). length l.streams) h.4 in
@@ -157,18 +147,18 @@ module _ {P S : Type 0} (to_give taken : S → Option (List ℕ)) (calls : S →
         closing = omega (arith, closing);
         few = λ few. omega (arith, closing, few);
       }
-  one (Connects Failed) old new h =
-      let out = taken_out_len old.arrivals new.arrivals h.0 h.1 in
+  one (Connects place Failed) old new h =
+      let out = sum_out one_if_arrives old.arrivals new.arrivals place h.0 refl h.1 in
       let came = h.3 in
-      let more = closes_len h.2.0 old.closing h.0.bot_key h.0.bot new.closing h.2.1 in
+      let more = closes_len h.2.0 old.closing h.0.bot new.closing h.2.1 in
       let longer = more.0 in
       record {
         bots = omega (arith, came, out);
         closing = omega (arith, longer);
         few = more.1;
       }
-  one (Connects Pending) old new h =
-      let len = checked_len (length old.arrivals) old.arrivals new.arrivals h.0 in
+  one (Connects place Pending) old new h =
+      let len = sum_stays one_if_arrives old.arrivals new.arrivals place stays h.0 in
       let came = h.1 in
       let closing : length new.closing.streams ≡ length old.closing.streams =
       ap (λ (l : ClosingList S). length l.streams) h.2 in
@@ -177,71 +167,64 @@ module _ {P S : Type 0} (to_give taken : S → Option (List ℕ)) (calls : S →
         closing = omega (arith, closing);
         few = λ few. omega (arith, closing, few);
       }
-  one (Retires ports end) old new h =
+  one (Retires place ports end) old new h =
       let both = h.0 in
-      let first = closes_len both.1.0 old.closing (pair ports).bot_key (pair ports).bot both.0 both.1.1 in
-      let second = closes_len both.2.0 both.0 (pair ports).server_key (pair ports).server new.closing both.2.1 in
+      let first = closes_len both.1.0 old.closing (pair ports).bot both.0 both.1.1 in
+      let second = closes_len both.2.0 both.0 (pair ports).server new.closing both.2.1 in
       let one_more = first.0 in
       let two_more = second.0 in
       let came = h.1 in
-      let arrivals : length new.arrivals ≡ length old.arrivals = ap length h.2 in
+      let arrivals : pending_in new.arrivals ≡ pending_in old.arrivals = ap pending_in h.2 in
       record {
         bots = omega (arith, came, arrivals);
         closing = omega (arith, one_more, two_more);
         few = λ few. second.1 (first.1 few);
       }
   one (Notifies notice) old new h = same_counts (Notifies notice) old new h refl refl
-  one Waits old new h = same_counts Waits old new h refl refl
 
   -- the first call is counted apart from the rest
   joined_first : (answer : SystemCall P) (answers : List (SystemCall P)) →
       bots_joined (answer ∷ answers) ≡ bots_joined (answer ∷ []) + bots_joined answers
-  joined_first (Begins orders) answers = omega arith
+  joined_first (Polls may_block woken orders) answers = omega arith
   joined_first (Shows ports status) answers = omega arith
-  joined_first (ReportsNews ports news) answers = omega arith
-  joined_first (BeginsTurn before after) answers = omega arith
-  joined_first (Watches ports) answers = omega arith
-  joined_first (Accepts came) answers = omega arith
-  joined_first (Connects (Ready ports)) answers = omega arith
-  joined_first (Connects Failed) answers = omega arith
-  joined_first (Connects Pending) answers = omega arith
-  joined_first (Retires ports end) answers = omega arith
+  joined_first (BeginsTurn place before after) answers = omega arith
+  joined_first (Rests place ports rests) answers = omega arith
+  joined_first (Accepts place came) answers = omega arith
+  joined_first (Connects place (Ready ports)) answers = omega arith
+  joined_first (Connects place Failed) answers = omega arith
+  joined_first (Connects place Pending) answers = omega arith
+  joined_first (Retires place ports end) answers = omega arith
   joined_first (Notifies notice) answers = omega arith
-  joined_first Waits answers = omega arith
 
   given_up_first : (answer : SystemCall P) (answers : List (SystemCall P)) →
       bots_given_up (answer ∷ answers) ≡ bots_given_up (answer ∷ []) + bots_given_up answers
-  given_up_first (Begins orders) answers = omega arith
+  given_up_first (Polls may_block woken orders) answers = omega arith
   given_up_first (Shows ports status) answers = omega arith
-  given_up_first (ReportsNews ports news) answers = omega arith
-  given_up_first (BeginsTurn before after) answers = omega arith
-  given_up_first (Watches ports) answers = omega arith
-  given_up_first (Accepts came) answers = omega arith
-  given_up_first (Connects (Ready ports)) answers = omega arith
-  given_up_first (Connects Failed) answers = omega arith
-  given_up_first (Connects Pending) answers = omega arith
-  given_up_first (Retires ports end) answers = omega arith
+  given_up_first (BeginsTurn place before after) answers = omega arith
+  given_up_first (Rests place ports rests) answers = omega arith
+  given_up_first (Accepts place came) answers = omega arith
+  given_up_first (Connects place (Ready ports)) answers = omega arith
+  given_up_first (Connects place Failed) answers = omega arith
+  given_up_first (Connects place Pending) answers = omega arith
+  given_up_first (Retires place ports end) answers = omega arith
   given_up_first (Notifies notice) answers = omega arith
-  given_up_first Waits answers = omega arith
 
   retired_first : (answer : SystemCall P) (answers : List (SystemCall P)) →
       sessions_retired (answer ∷ answers) ≡ sessions_retired (answer ∷ []) + sessions_retired answers
-  retired_first (Begins orders) answers = omega arith
+  retired_first (Polls may_block woken orders) answers = omega arith
   retired_first (Shows ports status) answers = omega arith
-  retired_first (ReportsNews ports news) answers = omega arith
-  retired_first (BeginsTurn before after) answers = omega arith
-  retired_first (Watches ports) answers = omega arith
-  retired_first (Accepts came) answers = omega arith
-  retired_first (Connects connect) answers = omega arith
-  retired_first (Retires ports end) answers = omega arith
+  retired_first (BeginsTurn place before after) answers = omega arith
+  retired_first (Rests place ports rests) answers = omega arith
+  retired_first (Accepts place came) answers = omega arith
+  retired_first (Connects place connect) answers = omega arith
+  retired_first (Retires place ports end) answers = omega arith
   retired_first (Notifies notice) answers = omega arith
-  retired_first Waits answers = omega arith
 
   counted : (old new : RunSockets S) (answers : List (SystemCall P)) →
       TransitsBy (Transits to_give taken calls pair) old answers new → Counts answers old new
   counted old new [] h =
       let came : new.came ≡ old.came = ap (λ (s : RunSockets S). s.came) h in
-      let arrivals : length new.arrivals ≡ length old.arrivals = ap (λ (s : RunSockets S). length s.arrivals) h in
+      let arrivals : pending_in new.arrivals ≡ pending_in old.arrivals = ap (λ (s : RunSockets S). pending_in s.arrivals) h in
       let closing : length new.closing.streams ≡ length old.closing.streams =
       ap (λ (s : RunSockets S). length s.closing.streams) h in
       record {
@@ -265,16 +248,15 @@ module _ {P S : Type 0} (to_give taken : S → Option (List ℕ)) (calls : S →
         few = λ few. rest.few (first.few few);
       }
 
-  pub accounted : (old new : RunSockets S) (answers : List (SystemCall P)) → old.came ≡ 0 → old.arrivals ≡ [] →
+  pub accounted : (old new : RunSockets S) (answers : List (SystemCall P)) → old.came ≡ 0 → pending_in old.arrivals ≡ 0 →
       old.closing.streams ≡ [] → TransitsBy (Transits to_give taken calls pair) old answers new → IsAccounted answers new
   accounted old new answers none no_arrivals no_closing h =
       let counts = counted old new answers h in
       let bots = counts.bots in
       let closing = counts.closing in
-      let arrivals : length old.arrivals ≡ 0 = ap length no_arrivals in
       let streams : length old.closing.streams ≡ 0 = ap length no_closing in
       record {
-        bots = omega (arith, bots, none, arrivals);
+        bots = omega (arith, bots, none, no_arrivals);
         closing = omega (arith, closing, streams);
         few = counts.few (omega (arith, streams));
       }

@@ -1,12 +1,12 @@
 -- A round in which the control socket has no connection.
 use Rattle.std.proofs.Common.{◌≡◌, ℕ, ◌-◌, Bool, true, false, List, [], ◌∷◌, Option, None, refl, sym, ap, ◌∙◌, subst, inl}
 use Rattle.std.specs.Prelude.{◌||◌}
-use Rattle.std.specs.declared.time.Instant.{Instant}
 use Rattle.daide_io.specs.Streams.{StreamCall}
 use Rattle.daide_status.specs.declared.snapshot.RunStatus.{RunStatus}
 use Rattle.daide_sockets.specs.Control.{gathers_at, stops_at, stops_now_at}
-use Rattle.daide_sockets.specs.ControlSlots.{places, at_some, Each, PlaceAdvances, BeginsRound}
+use Rattle.daide_sockets.specs.ControlSlots.{places, at_some, PlacesAdvance, BeginsRound}
 use Rattle.daide_sockets.specs.Snapshot.{counted, IsRunStatus}
+use Rattle.daide_sockets.specs.Table.{Table}
 use Rattle.daide_sockets.specs.declared.control.Control.{Control}
 use Rattle.daide_sockets.specs.declared.control_connection.ControlConnection.{ControlConnection}
 
@@ -40,12 +40,12 @@ or_false false = refl
 
 -- the control socket stays as it is, and its orders are those before
 pub rests : {S : Type 0} (to_give taken : S → Option (List ℕ)) (calls : S → Option (List StreamCall)) (run : RunStatus)
-    (reading : Option Instant) (old : Control S) → places old.slots ≡ None ∷ None ∷ None ∷ None ∷ [] →
-    BeginsRound to_give taken calls run reading old
+    (table : Table) (old : Control S) → places old.slots ≡ None ∷ None ∷ None ∷ None ∷ [] →
+    BeginsRound to_give taken calls run table old
     (record { stops_accepting = old.stops_accepting; shows_sessions = false }) old
-rests {S = S} to_give taken calls run reading old free = record {
+rests {S = S} to_give taken calls run table old free = record {
   mid = places old.slots;
-  advances = subst (λ (slots : List (Option (ControlConnection S))). Each (PlaceAdvances to_give taken calls run reading) slots slots)
+  advances = subst (λ (slots : List (Option (ControlConnection S))). PlacesAdvance to_give taken calls run table slots slots)
       (sym free) (refl, (refl, (refl, (refl, tt))));
   accepts = inl refl;
   stops = or_false old.stops_accepting

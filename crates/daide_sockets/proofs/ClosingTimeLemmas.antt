@@ -7,11 +7,10 @@ use Rattle.std.specs.Time.{instant_nanos, FitsClock}
 use Rattle.std.specs.declared.time.Duration.{Duration}
 use Rattle.std.specs.declared.time.Instant.{Instant}
 use Rattle.std.proofs.lemmas.List.Elements.{All-nil, All-cons, All-head, All-tail, All-same, All-append, All-push, All-weaker}
-use Rattle.daide_buffered_io.specs.Buffers.{Buffer}
+use Rattle.daide_buffered_io.specs.Buffers.{Buffer, with_stream}
 use Rattle.daide_buffered_io.specs.Calls.{is_last_piece}
 use Rattle.daide_io.specs.Streams.{StreamCall}
-use Rattle.daide_io.specs.System.{SystemCall, Begins, Shows, ReportsNews, BeginsTurn, Watches, Accepts, Connects, Retires}
-use Rattle.daide_io.specs.System.{Notifies, Waits, TransitsBy}
+use Rattle.daide_io.specs.System.{SystemCall, Polls, Shows, Accepts, Connects, BeginsTurn, Rests, Retires, Notifies, TransitsBy}
 use Rattle.daide_io.specs.declared.system.Connect.TheVariants.{Ready, Failed, Pending}
 use Rattle.daide_sockets.specs.Beside.{closing_due, stage_due}
 use Rattle.daide_sockets.specs.ClosingTime.{IsReadingFor, ReadingsGoOn, LingersBy, overdue_looks, ClosesSince, IsClosingInTime}
@@ -483,22 +482,22 @@ module _ {S : Type 0} (to_give taken : S → Option (List ℕ)) (calls : S → O
         by true = all
         by false = (without_first old.streams all.0, all.1)
 
-    closes_since : (reading : Option Instant) (old : ClosingList S) (key : ℕ) (stream : Buffer S) (new : ClosingList S) →
-        Contains clock reading → ClosesAt to_give taken calls reading old key stream new → AllSince old → AllSince new
-    closes_since reading old key stream new there at all =
+    closes_since : (reading : Option Instant) (old : ClosingList S) (stream : Buffer S) (new : ClosingList S) →
+        Contains clock reading → ClosesAt to_give taken calls reading old stream new → AllSince old → AllSince new
+    closes_since reading old stream new there at all =
         let room = room_since old all in
         let In : Option Instant → Type 0 = λ moment. Contains clock moment in
         let own : Own at.last = (
           record {
             start = reading;
-            key = key;
+            key = at.key;
             known = at.known;
-            stream = stream;
+            stream = with_stream stream at.moved;
             first = at.last;
             bound = at.bound;
             bounded = subst (λ (t : Option Duration). IsClosingBound reading t at.bound) all.1 at.bounded;
             begins = subst (λ (t : Option Duration).
-                WritesOut to_give taken calls reading (begins_closing t at.bound key at.known stream) at.last) all.1 at.writes;
+                WritesOut to_give taken calls reading (begins_closing t at.bound at.key at.known (with_stream stream at.moved)) at.last) all.1 at.writes;
             readings = [];
             looks = refl;
           },
@@ -518,22 +517,20 @@ module _ {S : Type 0} (to_give taken : S → Option (List ℕ)) (calls : S → O
 
       call_since : (call : SystemCall P) (old new : RunState N S) → Contains clock old.table.reading →
           Contains clock new.table.reading → Step old call new → AllSince old.closing → AllSince new.closing
-      call_since (Begins orders) old new here there h all =
+      call_since (Polls may_block woken orders) old new here there h all =
           round_since new.table.reading old.closing new.closing there h all
       call_since (Shows ports status) old new here there h all = same_since old.closing new.closing h all
-      call_since (ReportsNews ports news) old new here there h all = same_since old.closing new.closing h all
-      call_since (BeginsTurn before after) old new here there h all = same_since old.closing new.closing h all
-      call_since (Watches ports) old new here there h all = same_since old.closing new.closing h all
-      call_since (Accepts came) old new here there h all = same_since old.closing new.closing h all
-      call_since (Connects (Ready ports)) old new here there h all = same_since old.closing new.closing h all
-      call_since (Connects Failed) old new here there h all =
-          closes_since old.table.reading old.closing h.0 h.1 new.closing here h.2 all
-      call_since (Connects Pending) old new here there h all = same_since old.closing new.closing h all
-      call_since (Retires ports end) old new here there h all =
-          closes_since old.table.reading h.0 (pair ports).server_key (pair ports).server new.closing here h.2
-          (closes_since old.table.reading old.closing (pair ports).bot_key (pair ports).bot h.0 here h.1 all)
+      call_since (BeginsTurn place before after) old new here there h all = same_since old.closing new.closing h all
+      call_since (Rests place ports rests) old new here there h all = same_since old.closing new.closing h all
+      call_since (Accepts place came) old new here there h all = same_since old.closing new.closing h all
+      call_since (Connects place (Ready ports)) old new here there h all = same_since old.closing new.closing h all
+      call_since (Connects place Failed) old new here there h all =
+          closes_since old.table.reading old.closing h.0 new.closing here h.1 all
+      call_since (Connects place Pending) old new here there h all = same_since old.closing new.closing h all
+      call_since (Retires place ports end) old new here there h all =
+          closes_since old.table.reading h.0 (pair ports).server new.closing here h.2
+          (closes_since old.table.reading old.closing (pair ports).bot h.0 here h.1 all)
       call_since (Notifies notice) old new here there h all = same_since old.closing new.closing h all
-      call_since Waits old new here there h all = same_since old.closing new.closing h all
 
       abbrev readings : (answers : List (SystemCall P)) (old new : RunState N S) → TransitsBy Step old answers new →
           List (Option Instant)

@@ -1,13 +1,12 @@
--- The time of a wait, against each session that it watches.
+-- The time of a poll that may block, against what it watches and the deadlines of the places.
 use Rattle.std.proofs.Common.{◌≡◌, ◌≤◌, ℕ, ◌-◌, Bool, true, false, List, [], ◌∷◌, Option, Some, None, refl, sym, ap, ◌∙◌, subst, arith}
-use Rattle.std.specs.Prelude.{◌||◌, nat_le, if◌then◌else◌, All}
+use Rattle.std.specs.Prelude.{◌||◌, ◌&&◌, not, nat_le, if◌then◌else◌, All}
 use Rattle.std.proofs.lemmas.List.Elements.{All-nil, All-cons}
 use Rattle.std.specs.Time.{instant_nanos}
 use Rattle.std.specs.declared.time.Duration.{Duration}
 use Rattle.std.specs.declared.time.Instant.{Instant}
 use Rattle.daide_io.specs.Deadline.{earlier}
-use Rattle.daide_sockets.specs.Table.{Table, watching, has_pending, IsUntil, IsNoTime, IsWaitTime}
-use Rattle.daide_sockets.specs.Table.{IsWaitTimeIf}
+use Rattle.daide_sockets.specs.Table.{Table, watching, IsUntil, IsNoTime, IsPollTime, IsPollTimeIf}
 use Rattle.daide_sockets.specs.InTime.{IsAtMost, IsInTimeFor, watching_all, WaitsAreInTime}
 
 -- a moment that is no later than another
@@ -54,76 +53,59 @@ until_by now due (Some read) (Some moment) (Some time) h e k =
     let same : instant_nanos read ≡ instant_nanos now = ap (nanos_of now) e in
     omega (arith, h, same, k)
 
--- ---- the sessions that are watched
+-- ---- what is watched
 
 pub same_rows : (table : Table) (watched : List (Bool × Option Instant)) → (watching_all table watched).rows ≡ table.rows
 same_rows table [] = refl
-same_rows table (session ∷ watched) = same_rows (watching table session.0 session.1) watched
+same_rows table (one ∷ watched) = same_rows (watching table one.0 one.1) watched
 
 pub same_reading : (table : Table) (watched : List (Bool × Option Instant)) → (watching_all table watched).reading ≡ table.reading
 same_reading table [] = refl
-same_reading table (session ∷ watched) = same_reading (watching table session.0 session.1) watched
+same_reading table (one ∷ watched) = same_reading (watching table one.0 one.1) watched
 
--- what a wait is to watch stays watched
+pub same_due : (table : Table) (watched : List (Bool × Option Instant)) → (watching_all table watched).due ≡ table.due
+same_due table [] = refl
+same_due table (one ∷ watched) = same_due (watching table one.0 one.1) watched
+
+-- what a poll is to watch stays watched
 pub due_keeps : (table : Table) (watched : List (Bool × Option Instant)) (due : Instant) → IsBy table.watched_due due →
     IsBy (watching_all table watched).watched_due due
 due_keeps table [] due h = h
-due_keeps table (session ∷ watched) due h =
-    due_keeps (watching table session.0 session.1) watched due (earlier_left table.watched_due session.1 due h)
+due_keeps table (one ∷ watched) due h =
+    due_keeps (watching table one.0 one.1) watched due (earlier_left table.watched_due one.1 due h)
 
 pub work_stays : (table : Table) (watched : List (Bool × Option Instant)) → table.watched_work ≡ true →
     (watching_all table watched).watched_work ≡ true
 work_stays table [] h = h
-work_stays table (session ∷ watched) h =
-    work_stays (watching table session.0 session.1) watched (ap (λ (b : Bool). b || session.0) h)
+work_stays table (one ∷ watched) h =
+    work_stays (watching table one.0 one.1) watched (ap (λ (b : Bool). b || one.0) h)
 
-pub at_once : (table : Table) (time : Option Duration) → IsWaitTime table time → table.watched_work ≡ true → IsNoTime time
-at_once table time lasts h = by (has_pending table) refl lasts
+-- a poll that watches something with work takes no time
+pub at_once : (table : Table) (time : Option Duration) → IsPollTime true table time → table.watched_work ≡ true → IsNoTime time
+at_once table time lasts h = subst (λ (b : Bool). IsPollTimeIf b table time) (ap (λ (b : Bool). true && not b) h) lasts
+
+-- a poll ends by the nearest deadline, of a place or of what is watched
+pub by_due : (table : Table) (time : Option Duration) (now due : Instant) → table.reading ≡ Some now →
+    IsPollTime true table time → IsBy (earlier table.due table.watched_due) due →
+    IsAtMost time (instant_nanos due - instant_nanos now)
+by_due table time now due read lasts h = by (true && not table.watched_work) lasts
   where
-    pending : has_pending table ≡ true
-    pending = ap (λ (b : Bool). table.has_news || b) h ∙ or_true table.has_news
+    by : (blocks : Bool) → IsPollTimeIf blocks table time → IsAtMost time (instant_nanos due - instant_nanos now)
+    by false k = no_time time (instant_nanos due - instant_nanos now) k
+    by true k = until_by now due table.reading (earlier table.due table.watched_due) time k read h
 
-    by : (now : Bool) → has_pending table ≡ now → IsWaitTimeIf now table time → IsNoTime time
-    by true e h = h
-    by false e h = let both : true ≡ false = sym pending ∙ e in absurd (cc)
-
--- after a poll that reported something since the last wait, a wait takes no time
-news_stays : (table : Table) (watched : List (Bool × Option Instant)) → (watching_all table watched).has_news ≡ table.has_news
-news_stays table [] = refl
-news_stays table (session ∷ watched) = news_stays (watching table session.0 session.1) watched
-
-pub at_once_for_news : (table : Table) (others : List (Bool × Option Instant)) (time : Option Duration) →
-    IsWaitTime (watching_all table others) time → table.has_news ≡ true → IsNoTime time
-at_once_for_news table others time lasts h = by (has_pending (watching_all table others)) refl lasts
-  where
-    pending : has_pending (watching_all table others) ≡ true
-    pending = ap (λ (b : Bool). b || (watching_all table others).watched_work) (news_stays table others ∙ h)
-
-    by : (now : Bool) → has_pending (watching_all table others) ≡ now →
-        IsWaitTimeIf now (watching_all table others) time → IsNoTime time
-    by true e h = h
-    by false e h = let both : true ≡ false = sym pending ∙ e in absurd (cc)
-
-pub by_due : (table : Table) (time : Option Duration) (now due : Instant) → table.reading ≡ Some now → IsWaitTime table time →
-    IsBy table.watched_due due → IsAtMost time (instant_nanos due - instant_nanos now)
-by_due table time now due read lasts h = by (has_pending table) lasts
-  where
-    by : (pending : Bool) → IsWaitTimeIf pending table time → IsAtMost time (instant_nanos due - instant_nanos now)
-    by true k = no_time time (instant_nanos due - instant_nanos now) k
-    by false k = until_by now due table.reading table.watched_due time k read h
-
--- a wait that watches these, and then others
-pub sessions_in_time_beside : (table : Table) (watched others : List (Bool × Option Instant)) (time : Option Duration) →
-    IsWaitTime (watching_all (watching_all table watched) others) time →
-    All (λ (session : Bool × Option Instant). IsInTimeFor table.reading time session.0 session.1) watched
-sessions_in_time_beside table [] others time lasts =
-    All-nil (λ (session : Bool × Option Instant). IsInTimeFor table.reading time session.0 session.1)
-sessions_in_time_beside table (session ∷ watched) others time lasts =
-    All-cons (λ (other : Bool × Option Instant). IsInTimeFor table.reading time other.0 other.1) session watched own
-    (sessions_in_time_beside next watched others time lasts)
+-- a poll that watches these, and then others
+pub each_in_time_beside : (table : Table) (watched others : List (Bool × Option Instant)) (time : Option Duration) →
+    IsPollTime true (watching_all (watching_all table watched) others) time →
+    All (λ (one : Bool × Option Instant). IsInTimeFor table.reading time one.0 one.1) watched
+each_in_time_beside table [] others time lasts =
+    All-nil (λ (one : Bool × Option Instant). IsInTimeFor table.reading time one.0 one.1)
+each_in_time_beside table (one ∷ watched) others time lasts =
+    All-cons (λ (other : Bool × Option Instant). IsInTimeFor table.reading time other.0 other.1) one watched own
+    (each_in_time_beside next watched others time lasts)
   where
     next : Table
-    next = watching table session.0 session.1
+    next = watching table one.0 one.1
 
     all : Table
     all = watching_all next watched
@@ -131,21 +113,33 @@ sessions_in_time_beside table (session ∷ watched) others time lasts =
     last : Table
     last = watching_all all others
 
-    own : IsInTimeFor table.reading time session.0 session.1
+    own : IsInTimeFor table.reading time one.0 one.1
     own = record {
       deadline = λ now due read e.
           by_due last time now due (same_reading all others ∙ same_reading next watched ∙ read) lasts
-          (due_keeps all others due (due_keeps next watched due (earlier_right table.watched_due session.1 due
-          (subst (λ (m : Option Instant). IsBy m due) (sym e) (omega arith)))));
+          (earlier_right last.due last.watched_due due
+          (due_keeps all others due (due_keeps next watched due (earlier_right table.watched_due one.1 due
+          (subst (λ (m : Option Instant). IsBy m due) (sym e) (omega arith))))));
       work = λ e. at_once last time lasts
           (work_stays all others
           (work_stays next watched (ap (λ (b : Bool). table.watched_work || b) e ∙ or_true table.watched_work)));
     }
 
-pub sessions_in_time : (table : Table) (watched : List (Bool × Option Instant)) (time : Option Duration) →
-    IsWaitTime (watching_all table watched) time →
-    All (λ (session : Bool × Option Instant). IsInTimeFor table.reading time session.0 session.1) watched
-sessions_in_time table watched time lasts = sessions_in_time_beside table watched [] time lasts
+pub each_in_time : (table : Table) (watched : List (Bool × Option Instant)) (time : Option Duration) →
+    IsPollTime true (watching_all table watched) time →
+    All (λ (one : Bool × Option Instant). IsInTimeFor table.reading time one.0 one.1) watched
+each_in_time table watched time lasts = each_in_time_beside table watched [] time lasts
+
+-- a poll ends by the deadlines of the places
+pub places_in_time : (table : Table) (watched : List (Bool × Option Instant)) (time : Option Duration) →
+    IsPollTime true (watching_all table watched) time → IsInTimeFor table.reading time false table.due
+places_in_time table watched time lasts = record {
+  deadline = λ now due read e.
+      by_due (watching_all table watched) time now due (same_reading table watched ∙ read) lasts
+      (earlier_left (watching_all table watched).due (watching_all table watched).watched_due due
+      (subst (λ (m : Option Instant). IsBy m due) (sym (same_due table watched ∙ e)) (omega arith)));
+  work = λ e. absurd (cc);
+}
 
 pub waits_in_time : WaitsAreInTime
-waits_in_time = sessions_in_time
+waits_in_time table watched time lasts = (each_in_time table watched time lasts, places_in_time table watched time lasts)

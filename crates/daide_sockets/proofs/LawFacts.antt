@@ -6,25 +6,21 @@ use Rattle.std.specs.Duration.{as_nanos}
 use Rattle.std.specs.Time.{instant_nanos}
 use Rattle.std.specs.declared.time.Duration.{Duration}
 use Rattle.std.specs.declared.time.Instant.{Instant}
-use Rattle.daide_io.specs.System.{SystemCall, Accepts, Connects, Retires, TransitsBy}
-use Rattle.daide_io.specs.declared.system.SessionEnd.{SessionEnd}
+use Rattle.daide_io.specs.System.{SystemCall, Accepts, Connects, TransitsBy}
 use Rattle.daide_io.specs.declared.system.Connect.TheVariants.{Ready, Failed}
 use Rattle.daide_io.specs.Streams.{StreamCall}
-use Rattle.daide_sockets.specs.Pairing.{Arriving, Paired, RunSockets, Transits}
+use Rattle.daide_sockets.specs.Pairing.{Paired, RunSockets, Transits, pending_in}
 use Rattle.daide_sockets.specs.Lingering.{ClosingStream}
-use Rattle.daide_sockets.specs.Beside.{WaitsAreInTimeBeside, may_close_on, closing_due, may_connect, others_watched}
+use Rattle.daide_sockets.specs.Beside.{WaitsAreInTimeBeside, may_close_on, closing_due, others_watched}
 use Rattle.daide_sockets.specs.Accounted.{SocketsAreAccounted}
 use Rattle.daide_sockets.specs.PairedOnce.{SessionsComeOnce, one_if_same}
 use Rattle.daide_sockets.specs.ClosingTime.{ReadingsGoOn, overdue_looks, bound_of, readings_of, IsClosingInTime, ClosingSocketsLeave}
-use Rattle.daide_sockets.specs.Rows.{AreRowsOf, closing_keys, is_key, occurrences_of, keys_of_arrivals, listener_keys}
-use Rattle.daide_sockets.specs.RowsOfRun.{NoRowLeaks, SessionsGoOn, keys_of_all, keys_of_sessions, taken_rows}
-use Rattle.daide_sockets.specs.Scheduling.{RunState, ClosesByClock, HandsAlong, keys_in}
-use Rattle.daide_sockets.specs.Table.{Table, IsWaitTime}
+use Rattle.daide_sockets.specs.Scheduling.{RunState, ClosesByClock}
+use Rattle.daide_sockets.specs.Table.{Table, IsPollTime}
 use Rattle.daide_sockets.specs.InTime.{WaitsAreInTime, IsInTimeFor, watching_all}
 use Rattle.daide_sockets.specs.Control.{has_work_at}
 use Rattle.daide_sockets.specs.ControlInTime.{IsPlaceInTime, ControlWaitsAreInTime}
-use Rattle.daide_sockets.specs.ControlSlots.{is_place_free, has_free, watching_control}
-use Rattle.daide_sockets.proofs.RowLemmas.{occurrences_of_both}
+use Rattle.daide_sockets.specs.ControlSlots.{is_place_free, has_free, may_accept_control, watching_control}
 use Rattle.daide_sockets.specs.declared.control.Control.{Control}
 use Rattle.daide_sockets.specs.declared.control.ControlListener.{ControlListener}
 use Rattle.daide_sockets.specs.declared.control_connection.ControlConnection.{ControlConnection}
@@ -34,79 +30,76 @@ use Rattle.daide_sockets.specs.declared.control_connection.Stage.TheVariants.{Re
 -- no two connects deliver ports of session 5
 never_twice : {P S : Type 0} (to_give taken : S → Option (List ℕ)) (calls : S → Option (List StreamCall)) →
     SessionsComeOnce P to_give taken calls → (pair : P → Paired S) (old new : RunSockets S) (a b : P) → old.came ≡ 0 →
-    old.arrivals ≡ [] →
-    TransitsBy (Transits to_give taken calls pair) old (Connects (Ready a) ∷ Connects (Ready b) ∷ []) new →
+    pending_in old.arrivals ≡ 0 →
+    TransitsBy (Transits to_give taken calls pair) old (Connects 3 (Ready a) ∷ Connects 4 (Ready b) ∷ []) new →
     (pair a).number ≡ 5 → (pair b).number ≡ 5 → ⊥
 never_twice to_give taken calls law pair old new a b none no_arrivals goes first second =
     let most : one_if_same (pair a).number 5 + (one_if_same (pair b).number 5 + 0) ≤ 1 =
-    law pair old new (Connects (Ready a) ∷ Connects (Ready b) ∷ []) 5 none no_arrivals goes in
+    law pair old new (Connects 3 (Ready a) ∷ Connects 4 (Ready b) ∷ []) 5 none no_arrivals goes in
     let one : one_if_same (pair a).number 5 ≡ 1 = ap (λ (m : ℕ). one_if_same m 5) first in
     let other : one_if_same (pair b).number 5 ≡ 1 = ap (λ (m : ℕ). one_if_same m 5) second in
     absurd (omega (arith, most, one, other))
 
--- of three sessions that a wait watches, the second has work: the wait takes no time
+-- of three that a poll watches, the second has work: the poll takes no time
 watched_work : WaitsAreInTime → (table : Table) (time : Duration) →
-    IsWaitTime (watching_all table ((false, None) ∷ (true, None) ∷ (false, None) ∷ [])) (Some time) → as_nanos time ≡ 0
+    IsPollTime true (watching_all table ((false, None) ∷ (true, None) ∷ (false, None) ∷ [])) (Some time) → as_nanos time ≡ 0
 watched_work law table time lasts =
     let watched = (false, None) ∷ (true, None) ∷ (false, None) ∷ [] in
-    let all = law table watched (Some time) lasts in
+    let all = (law table watched (Some time) lasts).0 in
     (All-contains (λ (s : Bool × Option Instant). IsInTimeFor table.reading (Some time) s.0 s.1) watched (true, None) all
     (1, omega arith, refl)).work refl
 
--- of two sessions the second has a deadline seven nanoseconds after the reading, which ends the wait within them
+-- of two the second has a deadline seven nanoseconds after the reading, which ends the poll within them
 watched_deadline : WaitsAreInTime → (table : Table) (time : Duration) (now late due : Instant) → table.reading ≡ Some now →
-    IsWaitTime (watching_all table ((false, Some late) ∷ (false, Some due) ∷ [])) (Some time) →
+    IsPollTime true (watching_all table ((false, Some late) ∷ (false, Some due) ∷ [])) (Some time) →
     instant_nanos due ≡ instant_nanos now + 7 → as_nanos time ≤ 7
 watched_deadline law table time now late due reading lasts seven =
     let watched = (false, Some late) ∷ (false, Some due) ∷ [] in
-    let all = law table watched (Some time) lasts in
+    let all = (law table watched (Some time) lasts).0 in
     let most = (All-contains (λ (s : Bool × Option Instant). IsInTimeFor table.reading (Some time) s.0 s.1) watched
     (false, Some due) all (1, omega arith, refl)).deadline now due reading refl in
     omega (arith, most, seven)
 
--- with a deadline of a session that it watches no wait is for ever
+-- a place has a deadline seven nanoseconds after the reading, which ends the poll within them
+place_within_seven : WaitsAreInTime → (table : Table) (time : Duration) (now due : Instant) → table.reading ≡ Some now →
+    table.due ≡ Some due → IsPollTime true table (Some time) → instant_nanos due ≡ instant_nanos now + 7 → as_nanos time ≤ 7
+place_within_seven law table time now due reading first lasts seven =
+    let most = (law table [] (Some time) lasts).1.deadline now due reading first in
+    omega (arith, most, seven)
+
+-- with a deadline that it watches no poll is for ever
 watched_not_for_ever : WaitsAreInTime → (table : Table) (now due : Instant) → table.reading ≡ Some now →
-    IsWaitTime (watching_all table ((false, Some due) ∷ [])) None → ⊥
+    IsPollTime true (watching_all table ((false, Some due) ∷ [])) None → ⊥
 watched_not_for_ever law table now due reading lasts =
     let watched = (false, Some due) ∷ [] in
     (All-contains (λ (s : Bool × Option Instant). IsInTimeFor table.reading None s.0 s.1) watched (false, Some due)
-    (law table watched None lasts) (0, omega arith, refl)).deadline now due reading refl
+    (law table watched None lasts).0 (0, omega arith, refl)).deadline now due reading refl
 
--- while a byte is buffered for a closing stream that is writable, a wait takes no time
+-- while a byte is buffered for a closing stream that is writable, a poll takes no time
 closing_goes_out : {S : Type 0} → WaitsAreInTimeBeside S → (table : Table) (time : Duration) (closing : ClosingStream S) →
     closing.stream.has_failed ≡ false → closing.stream.write_buffer ≡ 7 ∷ [] → closing.known.may_write ≡ true →
-    IsWaitTime (watching_all table (others_watched {S = S} table (false, None) [] (closing ∷ []))) (Some time) →
+    IsPollTime true (watching_all table (others_watched {S = S} table (false, None) (closing ∷ []))) (Some time) →
     as_nanos time ≡ 0
 closing_goes_out {S} law table time closing failed held may lasts =
     let goes : may_close_on table closing ≡ true = rw (failed, held, may) refl in
     (All-head (λ (c : ClosingStream S). IsInTimeFor table.reading (Some time) (may_close_on table c) (closing_due c)) closing
-    [] (law table (Some time) (false, None) [] (closing ∷ []) lasts).closes).work goes
-
--- the deadline of a connect seven nanoseconds after the reading ends a wait within them
-connect_within_seven : {S : Type 0} → WaitsAreInTimeBeside S → (table : Table) (time : Duration) (arrival : Arriving S)
-    (now due : Instant) → table.reading ≡ Some now → arrival.gives_up ≡ Some due →
-    instant_nanos due ≡ instant_nanos now + 7 →
-    IsWaitTime (watching_all table (others_watched table (false, None) (arrival ∷ []) [])) (Some time) → as_nanos time ≤ 7
-connect_within_seven {S} law table time arrival now due reading deadline seven lasts =
-    let most = (All-head (λ (a : Arriving S). IsInTimeFor table.reading (Some time) (may_connect table a.row) a.gives_up)
-    arrival [] (law table (Some time) (false, None) (arrival ∷ []) [] lasts).connects).deadline now due reading deadline in
-    omega (arith, most, seven)
+    [] (law table (Some time) (false, None) (closing ∷ []) lasts).closes).work goes
 
 -- of the only bot, which was given up, at most one socket closes
 given_up_closes_one : {P S : Type 0} (to_give taken : S → Option (List ℕ)) (calls : S → Option (List StreamCall)) →
     SocketsAreAccounted P to_give taken calls → (pair : P → Paired S) (old new : RunSockets S) → old.came ≡ 0 →
-    old.arrivals ≡ [] → old.closing.streams ≡ [] →
-    TransitsBy (Transits to_give taken calls pair) old (Accepts true ∷ Connects Failed ∷ []) new →
+    pending_in old.arrivals ≡ 0 → old.closing.streams ≡ [] →
+    TransitsBy (Transits to_give taken calls pair) old (Accepts 3 true ∷ Connects 3 Failed ∷ []) new →
     length new.closing.streams ≤ 1
 given_up_closes_one to_give taken calls law pair old new none no_arrivals no_closing goes =
-    let few = (law pair old new (Accepts true ∷ Connects Failed ∷ []) none no_arrivals no_closing goes).closing in
+    let few = (law pair old new (Accepts 3 true ∷ Connects 3 Failed ∷ []) none no_arrivals no_closing goes).closing in
     omega (arith, few)
 
--- while the second control connection may be read, a wait takes no time
+-- while the second control connection may be read, a poll takes no time
 control_is_read : (S : Type 0) → ControlWaitsAreInTime S → (table : Table) (control : Control S)
     (connection : ControlConnection S) (time : Duration) → control.slots.second ≡ Some connection →
     connection.stage ≡ Reads → connection.readiness.may_read ≡ true →
-    IsWaitTime (watching_control table control) (Some time) → as_nanos time ≡ 0
+    IsPollTime true (watching_control table control) (Some time) → as_nanos time ≡ 0
 control_is_read S law table control connection time second reads ready lasts =
     let InTime : Option (ControlConnection S) → Type 0 = IsPlaceInTime table.reading (Some time) in
     let rest = control.slots.third ∷ control.slots.fourth ∷ [] in
@@ -116,10 +109,11 @@ control_is_read S law table control connection time second reads ready lasts =
     let there : InTime (Some connection) = subst InTime second own in
     there.work (ap (λ (s : Stage). has_work_at s connection.readiness) reads ∙ ready)
 
--- while the first place is free, and the listener may give a connection, a wait takes no time
+-- while the first place is free, and the listener may give a connection, a poll takes no time
 control_is_accepted : (S : Type 0) → ControlWaitsAreInTime S → (table : Table) (control : Control S)
     (listener : ControlListener) (time : Duration) → control.slots.first ≡ None → control.listener ≡ Some listener →
-    listener.readiness.may_read ≡ true → IsWaitTime (watching_control table control) (Some time) → as_nanos time ≡ 0
+    may_accept_control table listener ≡ true → IsPollTime true (watching_control table control) (Some time) →
+    as_nanos time ≡ 0
 control_is_accepted S law table control listener time free there ready lasts =
     ((law table control [] (Some time) lasts).listener listener (ap (λ (p : Option (ControlConnection S)).
     is_place_free p || has_free (control.slots.second ∷ control.slots.third ∷ control.slots.fourth ∷ [])) free) there).work
@@ -129,14 +123,14 @@ module _ {N P S : Type 0} (to_give taken : S → Option (List ℕ)) (calls : S �
     (law : ClosingSocketsLeave to_give taken calls N P) (pair : P → Paired S) (old new : RunState N S) (stall : Duration)
     (closing : ClosingStream S) (seven : as_nanos stall ≡ 7000000000) (none : old.closing.streams ≡ [])
     (set : old.closing.stall_time ≡ Some stall) (one : new.closing.streams ≡ closing ∷ [])
-    (goes : TransitsBy (ClosesByClock to_give taken calls pair) old (Accepts true ∷ Connects Failed ∷ []) new) where
+    (goes : TransitsBy (ClosesByClock to_give taken calls pair) old (Accepts 3 true ∷ Connects 3 Failed ∷ []) new) where
   abbrev clock : List (Option Instant)
-  clock = readings_of (ClosesByClock to_give taken calls pair) (Accepts true ∷ Connects Failed ∷ []) old new goes
+  clock = readings_of (ClosesByClock to_give taken calls pair) (Accepts 3 true ∷ Connects 3 Failed ∷ []) old new goes
 
   in_time : IsClosingInTime to_give taken calls stall clock closing
   in_time = All-head (IsClosingInTime to_give taken calls stall clock) closing []
       (subst (λ (l : List (ClosingStream S)). All (IsClosingInTime to_give taken calls stall clock) l) one
-      (law pair old new (Accepts true ∷ Connects Failed ∷ []) stall none set goes))
+      (law pair old new (Accepts 3 true ∷ Connects 3 Failed ∷ []) stall none set goes))
 
   -- While the only socket that closes is advanced, and with a stall timeout of seven seconds, its deadline is at most as long
   -- after it was advanced last.
@@ -171,43 +165,3 @@ module _ {N P S : Type 0} (to_give taken : S → Option (List ℕ)) (calls : S �
       let at = (in_time.bound begun start (omega (arith, first, seven))).due in
       let within = at.2 in
       (at.0, at.1, omega (arith, within, first, seven))
-
-module _ {N P S : Type 0} (law : NoRowLeaks N P S) (pair : P → Paired S) (old new : RunState N S) where
-  abbrev Step : RunState N S × List (Paired S) → SystemCall P → RunState N S × List (Paired S) → Type 0
-  Step first call last = HandsAlong pair first.0 call last.0 × SessionsGoOn pair first.1 call last.1
-
-  -- Of a session that began and was retired, and whose sockets are closed, no row is left. A closed listener has none, and a
-  -- control socket without a connection has that of its listener, 7.
-  no_row_left : (ports : P) (end : SessionEnd) → AreRowsOf old.table (keys_of_all {N = N} [] old) →
-      TransitsBy Step (old, []) (Connects (Ready ports) ∷ Retires ports end ∷ []) (new, []) → new.acceptor.is_closed ≡ true →
-      new.control ≡ 7 ∷ [] → new.arrivals ≡ [] → new.closing.streams ≡ [] → taken_rows new.table.rows ≡ 1
-  no_row_left ports end rows goes closed control arrivals closing =
-      (law.0 pair old new [] [] (Connects (Ready ports) ∷ Retires ports end ∷ []) rows goes).count
-      ∙ ap (λ (b : Bool). length ((if b then [] else new.acceptor.key ∷ []) ++ new.control ++ keys_of_arrivals new.arrivals
-      ++ closing_keys new.closing.streams)) closed
-      ∙ ap (λ (l : List ℕ). length ([] ++ l ++ keys_of_arrivals new.arrivals ++ closing_keys new.closing.streams)) control
-      ∙ ap (λ (l : List (Arriving S)). length ([] ++ 7 ∷ [] ++ keys_of_arrivals l ++ closing_keys new.closing.streams)) arrivals
-      ∙ ap (λ (l : List (ClosingStream S)). length ([] ++ 7 ∷ [] ++ [] ++ closing_keys l)) closing
-
-  -- while a session has the rows 3 and 4, no socket that closes has the row 4
-  no_row_shared : (ports : P) (stream : ClosingStream S) → AreRowsOf old.table (keys_of_all {N = N} [] old) →
-      TransitsBy Step (old, []) (Connects (Ready ports) ∷ []) (new, pair ports ∷ []) → (pair ports).bot_key ≡ 3 →
-      (pair ports).server_key ≡ 4 → new.closing.streams ≡ stream ∷ [] → stream.key ≡ 4 → ⊥
-  no_row_shared ports stream rows goes bot server closing key =
-      let once = (law.0 pair old new [] (pair ports ∷ []) (Connects (Ready ports) ∷ []) rows goes).once 4 in
-      let l = listener_keys new.acceptor ++ new.control ++ keys_of_arrivals new.arrivals in
-      let all = occurrences_of_both 4 (keys_of_sessions (pair ports ∷ [])) (keys_in new) in
-      let others = occurrences_of_both 4 l (closing_keys new.closing.streams) in
-      let own : is_key (pair ports).server_key 4 ≡ 1 = ap (λ (n : ℕ). is_key n 4) server in
-      let closes : occurrences_of 4 (closing_keys new.closing.streams) ≡ is_key stream.key 4 + 0 =
-      ap (λ (s : List (ClosingStream S)). occurrences_of 4 (closing_keys s)) closing in
-      let same : is_key stream.key 4 ≡ 1 = ap (λ (n : ℕ). is_key n 4) key in
-      absurd (omega (arith, once, all, others, own, closes, same))
-
-  -- of two sessions and one socket that closes, without any other, at most six rows are taken
-  six_rows : (sessions : List (Paired S)) (answers : List (SystemCall P)) → AreRowsOf old.table (keys_of_all {N = N} [] old) →
-      TransitsBy Step (old, []) answers (new, sessions) → length sessions ≡ 2 → length new.arrivals ≡ 0 →
-      length new.closing.streams ≡ 1 → length new.control ≡ 0 → taken_rows new.table.rows ≤ 6
-  six_rows sessions answers rows goes two none one no_control =
-      let most = (law.0 pair old new [] sessions answers rows goes).most in
-      omega (arith, most, two, none, one, no_control)

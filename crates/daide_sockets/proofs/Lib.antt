@@ -2,12 +2,13 @@ mod PairingLemmas
 mod OnceLemmas
 mod LingeringLemmas
 mod TableLemmas
-pub mod RowLemmas
-mod ControlRowLemmas
-pub mod RunRowLemmas
+pub mod KeptRowLemmas
+mod UnpolledLemmas
+mod PollLemmas
+mod RunPollLemmas
 mod AtRestLemmas
-pub mod InterestLemmas
-mod WatchLemmas
+mod ControlLemmas
+pub mod RowLemmas
 pub mod InTimeLemmas
 mod BesideLemmas
 mod FinishingLemmas

@@ -1,12 +1,12 @@
 -- Each session number is given once.
-use Rattle.std.proofs.Common.{◌≡◌, ◌≤◌, ℕ, ◌+◌, Bool, true, false, List, [], ◌∷◌, ◌++◌, length, Option, ap, ◌∙◌, arith}
+use Rattle.std.proofs.Common.{◌≡◌, ◌≤◌, ℕ, ◌+◌, Bool, true, false, List, [], ◌∷◌, Option, Some, None, refl, ap, ◌∙◌, arith}
 use Rattle.std.specs.Prelude.{nat_lt, if◌then◌else◌}
-use Rattle.daide_io.specs.System.{SystemCall, Begins, Shows, ReportsNews, BeginsTurn, Watches, Accepts, Connects}
-use Rattle.daide_io.specs.System.{Retires, Notifies, Waits, TransitsBy}
+use Rattle.daide_io.specs.System.{SystemCall, Polls, Shows, Accepts, Connects, BeginsTurn, Rests, Retires, Notifies, TransitsBy}
 use Rattle.daide_io.specs.declared.system.Connect.TheVariants.{Ready, Failed, Pending}
 use Rattle.daide_io.specs.Streams.{StreamCall}
-use Rattle.daide_sockets.specs.Pairing.{Arriving, Paired, RunSockets, AllStayPending, ChecksArrivals, TakesOut, Transits}
+use Rattle.daide_sockets.specs.Pairing.{Arriving, Paired, RunSockets, StaysPending, TakesOut, Transits, pending_in, sum_over}
 use Rattle.daide_sockets.specs.PairedOnce.{one_if_same, handed}
+use Rattle.daide_sockets.proofs.PairingLemmas.{sum_in, sum_out, sum_stays}
 
 -- 1 if the number is not given yet
 abbrev to_come : ℕ → ℕ → ℕ
@@ -23,102 +23,75 @@ at_most_one n came = by (nat_lt came n)
     by false = omega (arith)
 
 module _ {S : Type 0} (n : ℕ) where
-  -- how often the number occurs among arrivals
-  abbrev numbered : List (Arriving S) → ℕ
-  numbered [] = 0
-  numbered (x ∷ xs) = one_if_same x.number n + numbered xs
-
-  numbered_append : (xs ys : List (Arriving S)) → numbered (xs ++ ys) ≡ numbered xs + numbered ys
-  numbered_append [] ys = omega (arith)
-  numbered_append (x ∷ xs) ys =
-      let rest = numbered_append xs ys in
-      omega (arith, rest)
-
-  numbered_goes : (xs ys : List (Arriving S)) → AllStayPending xs ys → numbered ys ≡ numbered xs
-  numbered_goes [] ys h = ap numbered h
-  numbered_goes (x ∷ xs) ys h =
-      let same : one_if_same h.0.number n ≡ one_if_same x.number n = ap (λ (m : ℕ). one_if_same m n) h.3.number in
-      let rest = numbered_goes xs h.1 h.4 in
-      let whole : numbered ys ≡ one_if_same h.0.number n + numbered h.1 = ap numbered h.2 in
-      omega (arith, same, rest, whole)
+  -- 1 if the bot at a place has the number
+  abbrev numbered : Option (Arriving S) → ℕ
+  numbered None = 0
+  numbered (Some arrival) = one_if_same arrival.number n
 
   abbrev left : RunSockets S → ℕ
-  left sockets = numbered sockets.arrivals + to_come n sockets.came
+  left sockets = sum_over numbered sockets.arrivals + to_come n sockets.came
 
-  took_out : (old new : List (Arriving S)) (x : Arriving S) → TakesOut old x new →
-      numbered old ≡ one_if_same x.number n + numbered new
-  took_out old new x h =
-      let a : numbered old ≡ numbered (h.seen ++ x ∷ h.rest) = ap numbered h.split in
-      let b = numbered_append h.seen (x ∷ h.rest) in
-      let c : numbered new ≡ numbered (h.rest ++ h.moved) = ap numbered h.now in
-      let d = numbered_append h.rest h.moved in
-      let e = numbered_goes h.seen h.moved h.goes in
-      omega (arith, a, b, c, d, e)
+  -- no bot that is pending has the number
+  none_pending : (arrivals : List (Option (Arriving S))) → pending_in arrivals ≡ 0 → sum_over numbered arrivals ≡ 0
+  none_pending [] h = refl
+  none_pending (None ∷ arrivals) h =
+      let rest = none_pending arrivals (omega (arith, h)) in
+      omega (arith, rest)
+  none_pending (Some arrival ∷ arrivals) h = absurd (omega (arith, h))
 
-  looked : (old new : List (Arriving S)) (k : ℕ) → ChecksArrivals k old new → numbered old ≡ numbered new
-  looked old new k h =
-      let a : numbered old ≡ numbered (h.seen ++ h.rest) = ap numbered h.split in
-      let b = numbered_append h.seen h.rest in
-      let c : numbered new ≡ numbered (h.rest ++ h.moved) = ap numbered h.now in
-      let d = numbered_append h.rest h.moved in
-      let e = numbered_goes h.seen h.moved h.goes in
-      omega (arith, a, b, c, d, e)
+  stays : (before after : Arriving S) → StaysPending before after → numbered (Some after) ≡ numbered (Some before)
+  stays before after h = ap (λ (m : ℕ). one_if_same m n) h.number
 
   module _ {P : Type 0} (to_give taken : S → Option (List ℕ))
       (calls : S → Option (List StreamCall)) (pair : P → Paired S) where
     kept : (old new : RunSockets S) → new.came ≡ old.came → new.arrivals ≡ old.arrivals → left new ≡ left old
     kept old new came arrivals =
-        let a : numbered new.arrivals ≡ numbered old.arrivals = ap numbered arrivals in
+        let a : sum_over numbered new.arrivals ≡ sum_over numbered old.arrivals = ap (sum_over numbered) arrivals in
         let b : to_come n new.came ≡ to_come n old.came = ap (to_come n) came in
         omega (arith, a, b)
 
     one : (answer : SystemCall P) (old new : RunSockets S) → Transits to_give taken calls pair old answer new →
         handed pair n (answer ∷ []) + left new ≤ left old
-    one (Begins orders) old new h = let e = kept old new h.0 h.1 in omega (arith, e)
+    one (Polls may_block woken orders) old new h = let e = kept old new h.0 h.1 in omega (arith, e)
     one (Shows ports status) old new h = let e : left new ≡ left old = ap left h in omega (arith, e)
-    one (ReportsNews ports news) old new h = let e : left new ≡ left old = ap left h in omega (arith, e)
-    one (BeginsTurn before after) old new h = let e : left new ≡ left old = ap left h in omega (arith, e)
-    one (Watches ports) old new h = let e : left new ≡ left old = ap left h in omega (arith, e)
-    one (Accepts true) old new h =
-        let a : numbered new.arrivals ≡ numbered (old.arrivals ++ h.arrival ∷ []) = ap numbered h.arrivals in
-        let b = numbered_append old.arrivals (h.arrival ∷ []) in
+    one (BeginsTurn place before after) old new h = let e : left new ≡ left old = ap left h in omega (arith, e)
+    one (Rests place ports rests) old new h = let e : left new ≡ left old = ap left h in omega (arith, e)
+    one (Accepts place true) old new h =
+        let a = sum_in numbered old.arrivals new.arrivals place h.arrival refl h.free h.arrivals in
         let c : one_if_same h.arrival.number n ≡ one_if_same (old.came + 1) n =
         ap (λ (m : ℕ). one_if_same m n) (h.number ∙ h.came) in
         let d : to_come n new.came ≡ to_come n (old.came + 1) = ap (to_come n) h.came in
         let e = next_given n old.came in
-        omega (arith, a, b, c, d, e)
-    one (Accepts false) old new h = let e : left new ≡ left old = ap left h in omega (arith, e)
-    one (Connects (Ready ports)) old new h =
-        let a = took_out old.arrivals new.arrivals h.0 h.1 in
+        omega (arith, a, c, d, e)
+    one (Accepts place false) old new h = let e : left new ≡ left old = ap left h in omega (arith, e)
+    one (Connects place (Ready ports)) old new h =
+        let a = sum_out numbered old.arrivals new.arrivals place h.0 refl h.1 in
         let b : one_if_same (pair ports).number n ≡ one_if_same h.0.number n = ap (λ (m : ℕ). one_if_same m n) h.2.number in
         let c : to_come n new.came ≡ to_come n old.came = ap (to_come n) h.3 in
         omega (arith, a, b, c)
-    one (Connects Failed) old new h =
-        let a = took_out old.arrivals new.arrivals h.0 h.1 in
+    one (Connects place Failed) old new h =
+        let a = sum_out numbered old.arrivals new.arrivals place h.0 refl h.1 in
         let c : to_come n new.came ≡ to_come n old.came = ap (to_come n) h.3 in
         omega (arith, a, c)
-    one (Connects Pending) old new h =
-        let a = looked old.arrivals new.arrivals (length old.arrivals) h.0 in
+    one (Connects place Pending) old new h =
+        let a = sum_stays numbered old.arrivals new.arrivals place stays h.0 in
         let c : to_come n new.came ≡ to_come n old.came = ap (to_come n) h.1 in
         omega (arith, a, c)
-    one (Retires ports end) old new h = let e = kept old new h.1 h.2 in omega (arith, e)
+    one (Retires place ports end) old new h = let e = kept old new h.1 h.2 in omega (arith, e)
     one (Notifies notice) old new h = let e : left new ≡ left old = ap left h in omega (arith, e)
-    one Waits old new h = let e : left new ≡ left old = ap left h in omega (arith, e)
 
     handed_first : (answer : SystemCall P) (answers : List (SystemCall P)) →
         handed pair n (answer ∷ answers) ≡ handed pair n (answer ∷ []) + handed pair n answers
-    handed_first (Begins orders) answers = omega (arith)
+    handed_first (Polls may_block woken orders) answers = omega (arith)
     handed_first (Shows ports status) answers = omega (arith)
-    handed_first (ReportsNews ports news) answers = omega (arith)
-    handed_first (BeginsTurn before after) answers = omega (arith)
-    handed_first (Watches ports) answers = omega (arith)
-    handed_first (Accepts came) answers = omega (arith)
-    handed_first (Connects (Ready ports)) answers = omega (arith)
-    handed_first (Connects Failed) answers = omega (arith)
-    handed_first (Connects Pending) answers = omega (arith)
-    handed_first (Retires ports end) answers = omega (arith)
+    handed_first (BeginsTurn place before after) answers = omega (arith)
+    handed_first (Rests place ports rests) answers = omega (arith)
+    handed_first (Accepts place came) answers = omega (arith)
+    handed_first (Connects place (Ready ports)) answers = omega (arith)
+    handed_first (Connects place Failed) answers = omega (arith)
+    handed_first (Connects place Pending) answers = omega (arith)
+    handed_first (Retires place ports end) answers = omega (arith)
     handed_first (Notifies notice) answers = omega (arith)
-    handed_first Waits answers = omega (arith)
 
     all : (answers : List (SystemCall P)) (old new : RunSockets S) →
         TransitsBy (Transits to_give taken calls pair) old answers new → handed pair n answers ≤ left old
@@ -129,10 +102,10 @@ module _ {S : Type 0} (n : ℕ) where
         let c = handed_first answer answers in
         omega (arith, a, b, c)
 
-    pub come_once : (old new : RunSockets S) (answers : List (SystemCall P)) → old.came ≡ 0 → old.arrivals ≡ [] →
+    pub come_once : (old new : RunSockets S) (answers : List (SystemCall P)) → old.came ≡ 0 → pending_in old.arrivals ≡ 0 →
         TransitsBy (Transits to_give taken calls pair) old answers new → handed pair n answers ≤ 1
     come_once old new answers came arrivals h =
         let a = all answers old new h in
-        let b : numbered old.arrivals ≡ 0 = ap numbered arrivals in
+        let b = none_pending old.arrivals arrivals in
         let c = at_most_one n old.came in
         omega (arith, a, b, c)

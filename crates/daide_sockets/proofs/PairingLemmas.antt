@@ -1,21 +1,19 @@
--- The arrivals are checked one by one.
-use Rattle.std.proofs.Common.{◌≡◌, ℕ, suc, ◌+◌, ◌<◌, List, [], ◌∷◌, ◌++◌, length, refl, sym, ap, ◌∙◌, arith}
-use Rattle.std.proofs.Common.{◌⊎◌, append_assoc, append-nil, inl, inr, subst}
-use Rattle.std.proofs.Common.{get_or}
-use Rattle.std.specs.Prelude.{remove}
-use Rattle.std.proofs.lemmas.List.{length-append}
-use Rattle.daide_sockets.specs.Pairing.{Arriving, IsFreshConnect, StaysPending, AllStayPending, ChecksArrivals, TakesOut}
+-- What calls do to the bots whose connects are pending.
+use Rattle.std.proofs.Common.{◌≡◌, ℕ, zero, suc, ◌+◌, Bool, true, false, List, [], ◌∷◌, refl, sym, ap, ◌∙◌, arith}
+use Rattle.std.proofs.Common.{◌⊎◌, Option, Some, None, inl, inr, subst}
+use Rattle.std.specs.Prelude.{slice_get, slice_set}
+use Rattle.daide_sockets.specs.Pairing.{Arriving, IsFreshConnect, StaysPending, StaysPendingIf, TakesOut, arrival_at, arrival_in}
+use Rattle.daide_sockets.specs.Pairing.{is_free_in, is_free_place, sum_over}
 
 module _ {S : Type 0} where
   -- a bot stays pending, by one call and then another
   pub same_pending : (arrival : Arriving S) → StaysPending arrival arrival
-  same_pending arrival = record { number = refl; bot = refl; bot_key = refl; server = inl refl; tried = omega arith; gives_up = refl; im_due = refl }
+  same_pending arrival = record { number = refl; bot = refl; server = inl refl; tried = omega arith; gives_up = refl; im_due = refl }
 
   pub stays_both : (old mid new : Arriving S) → StaysPending old mid → StaysPending mid new → StaysPending old new
   stays_both old mid new h k = record {
     number = k.number ∙ h.number;
     bot = k.bot ∙ h.bot;
-    bot_key = k.bot_key ∙ h.bot_key;
     server = by h.server k.server;
     tried = let first = h.tried in let second = k.tried in omega (arith, first, second);
     gives_up = k.gives_up ∙ h.gives_up;
@@ -28,92 +26,111 @@ module _ {S : Type 0} where
       by (inl a) (inl b) = inl (b ∙ a)
       by (inr a) (inl b) = inr (subst IsFreshConnect (sym b) a)
 
-  go_on_snoc : (xs ys : List (Arriving S)) (x y : Arriving S) → AllStayPending xs ys → StaysPending x y →
-      AllStayPending (xs ++ x ∷ []) (ys ++ y ∷ [])
-  go_on_snoc [] ys x y h k = (y, [], ap (λ (l : List (Arriving S)). l ++ y ∷ []) h, k, refl)
-  go_on_snoc (z ∷ xs) ys x y h k = (
-    h.0,
-    h.1 ++ y ∷ [],
-    ap (λ (l : List (Arriving S)). l ++ y ∷ []) h.2,
-    h.3,
-    go_on_snoc xs h.1 x y h.4 k,
-  )
+  -- ---- one place changes
 
-  length_snoc : (xs : List (Arriving S)) (x : Arriving S) → length (xs ++ x ∷ []) ≡ suc (length xs)
-  length_snoc [] x = refl
-  length_snoc (y ∷ xs) x = ap suc (length_snoc xs x)
+  -- the sum over all places follows that place
+  pub sum_set : (number : Option (Arriving S) → ℕ) (arrivals : List (Option (Arriving S))) (place : ℕ)
+      (before after : Option (Arriving S)) → slice_get arrivals place ≡ Some before →
+      sum_over number (slice_set arrivals place after) + number before ≡ sum_over number arrivals + number after
+  sum_set number [] place before after h = absurd (cc)
+  sum_set number (arrival ∷ arrivals) zero before after h =
+      let e : arrival ≡ before = cc in
+      let same : number arrival ≡ number before = ap number e in
+      omega (arith, same)
+  sum_set number (arrival ∷ arrivals) (suc place) before after h =
+      let rest = sum_set number arrivals place before after h in
+      omega (arith, rest)
 
-  abbrev head_of : Arriving S → List (Arriving S) → Arriving S
-  head_of d [] = d
-  head_of d (x ∷ xs) = x
-
-  abbrev tail_of : List (Arriving S) → List (Arriving S)
-  tail_of [] = []
-  tail_of (x ∷ xs) = xs
-
-  next_split : (n : ℕ) (old now new : List (Arriving S)) (first : Arriving S) → ChecksArrivals n old now → n < length old →
-      now ≡ first ∷ new → (out : TakesOut old first new) × (length out.seen ≡ n)
-  next_split n old now new first h lt e = by h.rest h.split h.now
+  pub free_is : (arrivals : List (Option (Arriving S))) (place : ℕ) → is_free_place arrivals place ≡ true →
+      slice_get arrivals place ≡ Some None
+  free_is arrivals place h = by (slice_get arrivals place) refl h
     where
-      by : (rest : List (Arriving S)) → old ≡ h.seen ++ rest → now ≡ rest ++ h.moved →
-          (out : TakesOut old first new) × (length out.seen ≡ n)
-      by [] s m =
-          let same : length old ≡ n = ap length (s ∙ append-nil h.seen) ∙ h.len in
-          absurd (omega (arith, lt, same))
-      by (x ∷ xs) s m =
-          let both : x ∷ (xs ++ h.moved) ≡ first ∷ new = sym m ∙ e in
-          let front : x ≡ first = ap (head_of x) both in (
-            record {
-              seen = h.seen;
-              rest = xs;
-              moved = h.moved;
-              split = s ∙ ap (λ (y : Arriving S). h.seen ++ y ∷ xs) front;
-              now = sym (ap tail_of both);
-              goes = h.goes;
-            },
-            h.len,
-          )
+      by : (found : Option (Option (Arriving S))) → slice_get arrivals place ≡ found → is_free_in found ≡ true →
+          slice_get arrivals place ≡ Some None
+      by None e h = absurd (cc)
+      by (Some None) e h = e
+      by (Some (Some arrival)) e h = absurd (cc)
 
-  -- the first of the arrivals left is the first of the list
-  pub next_out : (n : ℕ) (old now new : List (Arriving S)) (first : Arriving S) → ChecksArrivals n old now → n < length old →
-      now ≡ first ∷ new → TakesOut old first new
-  next_out n old now new first h lt e = (next_split n old now new first h lt e).0
+  -- the bot at a place stays pending, so a number that it keeps does not change the sum
+  pub sum_stays : (number : Option (Arriving S) → ℕ) (old new : List (Option (Arriving S))) (place : ℕ) →
+      ((before after : Arriving S) → StaysPending before after → number (Some after) ≡ number (Some before)) →
+      StaysPendingIf (arrival_at old place) old place new → sum_over number new ≡ sum_over number old
+  sum_stays number old new place same h = by (slice_get old place) refl h
+    where
+      by : (found : Option (Option (Arriving S))) → slice_get old place ≡ found →
+          StaysPendingIf (arrival_in found) old place new → sum_over number new ≡ sum_over number old
+      by None e h = ap (sum_over number) h
+      by (Some None) e h = ap (sum_over number) h
+      by (Some (Some arrival)) e h =
+          let sum = sum_set number old place (Some arrival) (Some h.0) e in
+          let kept = same arrival h.0 h.1 in
+          let whole : sum_over number new ≡ sum_over number (slice_set old place (Some h.0)) = ap (sum_over number) h.2 in
+          omega (arith, sum, kept, whole)
 
-  -- one more arrival was checked
-  pub one_more : (n : ℕ) (old now rest new : List (Arriving S)) (first moved : Arriving S) → ChecksArrivals n old now →
-      n < length old → now ≡ first ∷ rest → new ≡ rest ++ moved ∷ [] → StaysPending first moved → ChecksArrivals (n + 1) old new
-  one_more n old now rest new first moved h lt e f k =
-      let split = next_split n old now rest first h lt e in
-      let out = split.0 in
-      let longer = length_snoc out.seen first in
-      let had = split.1 in
-      record {
-        seen = out.seen ++ first ∷ [];
-        rest = out.rest;
-        moved = out.moved ++ moved ∷ [];
-        split = out.split ∙ sym (append_assoc out.seen (first ∷ []) out.rest);
-        now = f ∙ ap (λ (l : List (Arriving S)). l ++ moved ∷ []) out.now ∙ append_assoc out.rest out.moved (moved ∷ []);
-        goes = go_on_snoc out.seen out.moved first moved out.goes k;
-        len = omega (arith, longer, had);
-      }
+  -- the bot at a place is taken out
+  pub sum_out : (number : Option (Arriving S) → ℕ) (old new : List (Option (Arriving S))) (place : ℕ) (arrival : Arriving S) →
+      number None ≡ 0 → TakesOut old place arrival new → sum_over number old ≡ number (Some arrival) + sum_over number new
+  sum_out number old new place arrival none h =
+      let sum = sum_set number old place (Some arrival) None h.there in
+      let whole : sum_over number new ≡ sum_over number (slice_set old place None) = ap (sum_over number) h.free in
+      omega (arith, sum, none, whole)
 
-  pub pending_len : (old new : List (Arriving S)) → AllStayPending old new → length new ≡ length old
-  pending_len [] new h = ap length h
-  pending_len (arrival ∷ old) new h = ap length h.2 ∙ ap suc (pending_len old h.1 h.4)
+  -- a bot comes to a free place
+  pub sum_in : (number : Option (Arriving S) → ℕ) (old new : List (Option (Arriving S))) (place : ℕ) (arrival : Arriving S) →
+      number None ≡ 0 → is_free_place old place ≡ true → new ≡ slice_set old place (Some arrival) →
+      sum_over number new ≡ number (Some arrival) + sum_over number old
+  sum_in number old new place arrival none free h =
+      let sum = sum_set number old place None (Some arrival) (free_is old place free) in
+      let whole : sum_over number new ≡ sum_over number (slice_set old place (Some arrival)) = ap (sum_over number) h in
+      omega (arith, sum, none, whole)
 
-  -- a check keeps their number
-  pub checked_len : (n : ℕ) (old new : List (Arriving S)) → ChecksArrivals n old new → length new ≡ length old
-  checked_len n old new h =
-      let before : length old ≡ length (h.seen ++ h.rest) = ap length h.split in
-      let after : length new ≡ length (h.rest ++ h.moved) = ap length h.now in
-      let one = length-append h.seen h.rest in
-      let other = length-append h.rest h.moved in
-      let same = pending_len h.seen h.moved h.goes in
-      omega (arith, before, after, one, other, same)
+  -- ---- what is put back
 
-  -- the first of some is removed
-  pub first_removed : (old new : List (Arriving S)) (first : Arriving S) → 0 < length old → first ≡ get_or old 0 first →
-      new ≡ remove old 0 → old ≡ first ∷ new
-  first_removed [] new first some value items = absurd (omega (arith, some))
-  first_removed (arrival ∷ others) new first some value items =
-      ap (λ (a : Arriving S). a ∷ others) (sym value) ∙ ap (λ (l : List (Arriving S)). first ∷ l) (sym items)
+  set_same : (arrivals : List (Option (Arriving S))) (place : ℕ) (arrival : Option (Arriving S)) →
+      slice_get arrivals place ≡ Some arrival → slice_set arrivals place arrival ≡ arrivals
+  set_same [] place arrival h = refl
+  set_same (first ∷ arrivals) zero arrival h =
+      let e : first ≡ arrival = cc in
+      ap (λ (a : Option (Arriving S)). a ∷ arrivals) (sym e)
+  set_same (first ∷ arrivals) (suc place) arrival h =
+      ap (λ (l : List (Option (Arriving S))). first ∷ l) (set_same arrivals place arrival h)
+
+  set_twice : (arrivals : List (Option (Arriving S))) (place : ℕ) (one other : Option (Arriving S)) →
+      slice_set (slice_set arrivals place one) place other ≡ slice_set arrivals place other
+  set_twice [] place one other = refl
+  set_twice (first ∷ arrivals) zero one other = refl
+  set_twice (first ∷ arrivals) (suc place) one other =
+      ap (λ (l : List (Option (Arriving S))). first ∷ l) (set_twice arrivals place one other)
+
+  -- nothing changes
+  pub unchanged_pending : (arrivals : List (Option (Arriving S))) (place : ℕ) →
+      StaysPendingIf (arrival_at arrivals place) arrivals place arrivals
+  unchanged_pending arrivals place = by (slice_get arrivals place) refl
+    where
+      by : (found : Option (Option (Arriving S))) → slice_get arrivals place ≡ found →
+          StaysPendingIf (arrival_in found) arrivals place arrivals
+      by None e = refl
+      by (Some None) e = refl
+      by (Some (Some arrival)) e = (arrival, same_pending arrival, sym (set_same arrivals place (Some arrival) e))
+
+  -- a bot is taken out, looked at and put back
+  pub put_back : (old mid new : List (Option (Arriving S))) (place : ℕ) (arrival later : Arriving S) →
+      TakesOut old place arrival mid → StaysPending arrival later → new ≡ slice_set mid place (Some later) →
+      StaysPendingIf (arrival_at old place) old place new
+  put_back old mid new place arrival later out stays e =
+      subst (λ (found : Option (Option (Arriving S))). StaysPendingIf (arrival_in found) old place new) (sym out.there)
+      (later, stays, e ∙ ap (λ (l : List (Option (Arriving S))). slice_set l place (Some later)) out.free ∙ set_twice old place None (Some later))
+
+  get_set : (arrivals : List (Option (Arriving S))) (place : ℕ) (before after : Option (Arriving S)) →
+      slice_get arrivals place ≡ Some before → slice_get (slice_set arrivals place after) place ≡ Some after
+  get_set [] place before after h = absurd (cc)
+  get_set (first ∷ arrivals) zero before after h = refl
+  get_set (first ∷ arrivals) (suc place) before after h = get_set arrivals place before after h
+
+  -- the bot that is put back is there
+  pub there_again : (old mid new : List (Option (Arriving S))) (place : ℕ) (arrival later : Arriving S) →
+      TakesOut old place arrival mid → new ≡ slice_set mid place (Some later) → arrival_at new place ≡ Some later
+  there_again old mid new place arrival later out e =
+      ap (λ (l : List (Option (Arriving S))). arrival_at l place) (e
+      ∙ ap (λ (l : List (Option (Arriving S))). slice_set l place (Some later)) out.free ∙ set_twice old place None (Some later))
+      ∙ ap arrival_in (get_set old place (Some arrival) (Some later) out.there)

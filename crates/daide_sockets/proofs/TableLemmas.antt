@@ -1,176 +1,350 @@
--- Walks along the rows of a table, and along the events of a poll.
-use Rattle.std.proofs.Common.{◌≡◌, ℕ, zero, suc, ◌+◌, ◌<◌, ◌≤◌, Bool, true, false, List, [], ◌∷◌, ◌++◌, length}
-use Rattle.std.proofs.Common.{refl, ap, sym, ◌∙◌, subst, arith, ◌==◌}
-use Rattle.std.proofs.lemmas.Bool.{eqb-true, eqb-false}
-use Rattle.std.specs.Prelude.{slice_set, if◌then◌else◌}
-use Rattle.std.specs.Prelude.{◌||◌}
-use Rattle.daide_buffered_io.specs.declared.readiness.Readiness.{Readiness}
-use Rattle.daide_sockets.specs.Table.{Row}
-use Rattle.daide_sockets.specs.Table.{Table, taken_row, row_at, first_free, with_taken, changed, no_report, report_at, TakesRow}
-use Rattle.daide_sockets.specs.Table.{AreReportsWithin, has_report, is_reported_at, merged, without_report}
+-- The rows of a table, the deadlines of its places, and what a poll wakes.
+use Rattle.std.proofs.Common.{◌≡◌, ◌≢◌, ℕ, zero, suc, ◌+◌, ◌*◌, ◌<◌, ◌≤◌, Bool, true, false, List, [], ◌∷◌, ◌++◌, length, get_or, take}
+use Rattle.std.proofs.Common.{refl, ap, sym, ◌∙◌, subst, arith, ◌==◌, eq-eqb}
+use Rattle.std.proofs.lemmas.Bool.{eqb-true, eqb-false, leb-true, leb-false, lt-leb, ltb-true, ltb-false, lt-ltb}
+use Rattle.std.proofs.lemmas.List.{replicate-append-replicate, length-replicate}
+use Rattle.std.proofs.lemmas.Option.{slice_get-get_or, slice_get_past}
+use Rattle.std.specs.Prelude.{◌/◌, if◌then◌else◌, nat_le, nat_lt, replicate, slice_get, slice_set, Option, Some, None}
+use Rattle.std.specs.Time.{instant_nanos}
+use Rattle.std.specs.declared.time.Instant.{Instant}
+use Rattle.daide_frame.specs.declared.side.Side.{Side}
+use Rattle.daide_frame.specs.declared.side.Side.TheVariants.{Bot, Server}
+use Rattle.daide_io.specs.declared.network.SocketEvent.{SocketEvent}
+use Rattle.daide_io.specs.Deadline.{earlier, IsNotBefore}
+use Rattle.daide_io.specs.ReadyQueue.{ReadyView, is_same, is_among, occurrences_of, woken, woken_all}
+use Rattle.daide_io.proofs.ReadyLemmas.{occurrences_both, same_is_one, woken_both}
+use Rattle.daide_sockets.specs.declared.table.Row.{Row}
+use Rattle.daide_sockets.specs.Table.{Table, WakesPlaces, AreBounded, changed, deadline_at, deadline_in, event_places, key_of, row_at, row_or_free}
+use Rattle.daide_sockets.specs.Table.{with_event, with_events}
+use Rattle.daide_sockets.specs.Times.{is_past}
 
-true_not_false : true ≡ false → ⊥
-true_not_false h = absurd (cc)
+-- ---- new tables
 
--- ---- the first free row
+pub one_more : {X : Type 0} (n : ℕ) (x : X) → replicate n x ++ x ∷ [] ≡ replicate (n + 1) x
+one_more n x = replicate-append-replicate n 1 x
 
--- a free one among the rows is taken in its place
-pub taken_inside : (rows : List Row) → first_free rows < length rows →
-    slice_set rows (first_free rows) taken_row ≡ with_taken rows
-taken_inside [] lt = absurd (omega (arith, lt))
-taken_inside (row ∷ rows) lt = by row.is_taken (taken_inside rows) lt
+pub none_due : (places place : ℕ) → IsNotBefore None (deadline_in (slice_get (replicate places None) place))
+none_due zero zero = tt
+none_due zero (suc place) = tt
+none_due (suc places) zero = tt
+none_due (suc places) (suc place) = none_due places place
+
+-- ---- deadlines
+
+-- the deadline at a position of a list
+abbrev pub due_at : List (Option Instant) → ℕ → Option Instant
+due_at deadlines place = deadline_in (slice_get deadlines place)
+
+set_here : (deadlines : List (Option Instant)) (place : ℕ) → due_at (slice_set deadlines place None) place ≡ None
+set_here [] zero = refl
+set_here [] (suc place) = refl
+set_here (due ∷ deadlines) zero = refl
+set_here (due ∷ deadlines) (suc place) = set_here deadlines place
+
+-- another element of a list is unchanged
+pub get_elsewhere : {X : Type 0} (xs : List X) (at other : ℕ) (x : X) → other ≢ at →
+    slice_get (slice_set xs at x) other ≡ slice_get xs other
+get_elsewhere [] at other x far = refl
+get_elsewhere (one ∷ xs) zero zero x far = absurd (far refl)
+get_elsewhere (one ∷ xs) zero (suc other) x far = refl
+get_elsewhere (one ∷ xs) (suc at) zero x far = refl
+get_elsewhere (one ∷ xs) (suc at) (suc other) x far =
+    get_elsewhere xs at other x (λ same. far (ap (λ (n : ℕ). suc n) same))
+
+set_elsewhere : (deadlines : List (Option Instant)) (place other : ℕ) (due : Option Instant) → other ≢ place →
+    due_at (slice_set deadlines place due) other ≡ due_at deadlines other
+set_elsewhere deadlines place other due far =
+    ap (λ (d : Option (Option Instant)). deadline_in d) (get_elsewhere deadlines place other due far)
+
+-- another row is unchanged
+pub row_elsewhere : (rows : List Row) (at key : ℕ) (row : Row) → key ≢ at → row_at (changed rows at row) key ≡ row_at rows key
+row_elsewhere rows at key row far = ap (λ (r : Option Row). row_or_free r) (get_elsewhere rows at key row far)
+
+past_end : (deadlines : List (Option Instant)) (place : ℕ) → length deadlines ≤ place → due_at deadlines place ≡ None
+past_end deadlines place le = ap (λ (d : Option (Option Instant)). deadline_in d) (slice_get_past deadlines place le)
+
+read_due : (deadlines : List (Option Instant)) (place : ℕ) → place < length deadlines →
+    due_at deadlines place ≡ get_or deadlines place None
+read_due deadlines place lt = ap (λ (d : Option (Option Instant)). deadline_in d) (slice_get-get_or deadlines place None lt)
+
+-- one more deadline is forgotten
+pub forgot_more : (deadlines : List (Option Instant)) (place : ℕ) → ((k : ℕ) → k < place → due_at deadlines k ≡ None) →
+    (k : ℕ) → k < place + 1 → due_at (slice_set deadlines place None) k ≡ None
+forgot_more deadlines place before k few = by (k == place) refl
   where
-    by : (taken : Bool) →
-        (first_free rows < length rows → slice_set rows (first_free rows) taken_row ≡ with_taken rows) →
-        (if taken then 1 + first_free rows else 0) < length (row ∷ rows) →
-        slice_set (row ∷ rows) (if taken then 1 + first_free rows else 0) taken_row
-        ≡ (if taken then row ∷ with_taken rows else taken_row ∷ rows)
-    by true rest h =
-        let next : 1 + first_free rows ≡ suc (first_free rows) = omega arith in
-        ap (λ (n : ℕ). slice_set (row ∷ rows) n taken_row) next
-        ∙ ap (λ (l : List Row). row ∷ l) (rest (omega (arith, h)))
-    by false rest h = refl
+    by : (here : Bool) → (k == place) ≡ here → due_at (slice_set deadlines place None) k ≡ None
+    by true e = ap (λ (n : ℕ). due_at (slice_set deadlines place None) n) (eqb-true k place e) ∙ set_here deadlines place
+    by false e =
+        let far : k ≢ place = eqb-false k place e in
+        set_elsewhere deadlines place k None far ∙ before k (omega (arith, far, few))
 
--- if all are taken, a new one is added
-pub taken_behind : (rows : List Row) → first_free rows ≡ length rows → rows ++ taken_row ∷ [] ≡ with_taken rows
-taken_behind [] e = refl
-taken_behind (row ∷ rows) e = by row.is_taken (taken_behind rows) e
+pub forgot_all : (deadlines : List (Option Instant)) (end : ℕ) → length deadlines ≤ end →
+    ((k : ℕ) → k < end → due_at deadlines k ≡ None) → (k : ℕ) → due_at deadlines k ≡ None
+forgot_all deadlines end le before k = by (nat_lt k end) refl
   where
-    by : (taken : Bool) → (first_free rows ≡ length rows → rows ++ taken_row ∷ [] ≡ with_taken rows) →
-        (if taken then 1 + first_free rows else 0) ≡ length (row ∷ rows) →
-        row ∷ rows ++ taken_row ∷ [] ≡ (if taken then row ∷ with_taken rows else taken_row ∷ rows)
-    by true rest h = ap (λ (l : List Row). row ∷ l) (rest (omega (arith, h)))
-    by false rest h = absurd (omega (arith, h))
+    by : (inside : Bool) → nat_lt k end ≡ inside → due_at deadlines k ≡ None
+    by true e = before k (ltb-true k end e)
+    by false e = let past = ltb-false k end e in past_end deadlines k (omega (arith, le, past))
 
--- the table after it
-pub took : (was now : Table) (rows : List Row) → was ≡ now → rows ≡ with_taken was.rows →
-    record was { rows = rows } ≡ record now { rows = with_taken now.rows }
-took was now rows e f = ap (λ (l : List Row). record was { rows = l }) f
-    ∙ ap (λ (t : Table). record t { rows = with_taken t.rows }) e
+-- ---- moments
 
-pub took_inside : (rows : List Row) (key len : ℕ) → key ≡ first_free rows → len ≡ length rows → key < len →
-    slice_set rows key taken_row ≡ with_taken rows
-took_inside rows key len e f lt = ap (λ (n : ℕ). slice_set rows n taken_row) e ∙ taken_inside rows (omega (arith, e, f, lt))
-
-pub took_behind : (rows new : List Row) (key len : ℕ) → key ≡ first_free rows → len ≡ length rows → len ≤ key →
-    key ≤ length rows → new ≡ rows ++ taken_row ∷ [] → new ≡ with_taken rows
-took_behind rows new key len e f le few is = is ∙ taken_behind rows (omega (arith, e, f, le, few))
-
--- nothing is reported of a row that was taken
-taken_has_no_report : (rows : List Row) → row_at (with_taken rows) (first_free rows) ≡ taken_row
-taken_has_no_report [] = refl
-taken_has_no_report (row ∷ rows) = by row.is_taken (taken_has_no_report rows)
+-- a bound stays one if an earlier moment takes its place
+bound_kept : (nearest due other : Option Instant) → IsNotBefore nearest other → IsNotBefore (earlier nearest due) other
+bound_kept nearest due None h = tt
+bound_kept None due (Some other) h = absurd h
+bound_kept (Some nearest) None (Some other) h = h
+bound_kept (Some nearest) (Some due) (Some other) h = by (nat_le (instant_nanos nearest) (instant_nanos due)) refl
   where
-    by : (taken : Bool) → row_at (with_taken rows) (first_free rows) ≡ taken_row →
-        row_at (if taken then row ∷ with_taken rows else taken_row ∷ rows)
-        (if taken then 1 + first_free rows else 0) ≡ taken_row
-    by true rest =
-        let next : 1 + first_free rows ≡ suc (first_free rows) = omega arith in
-        ap (λ (n : ℕ). row_at (row ∷ with_taken rows) n) next ∙ rest
-    by false rest = refl
+    by : (first : Bool) → nat_le (instant_nanos nearest) (instant_nanos due) ≡ first →
+        IsNotBefore (if first then Some nearest else Some due) (Some other)
+    by true e = h
+    by false e =
+        let later = leb-false (instant_nanos nearest) (instant_nanos due) e in
+        omega (arith, later, h)
 
-pub unknown_row : (old : Table) (key : ℕ) (new : Table) → TakesRow old key new → report_at new key ≡ no_report
-unknown_row old key new h =
-    ap (λ (k : ℕ). report_at new k) h.0 ∙ ap (λ (t : Table). report_at t (first_free old.rows)) h.1
-    ∙ ap (λ (row : Row). row.report) (taken_has_no_report old.rows)
-
--- a report that was taken is there no more
-pub report_taken : (rows : List Row) (key : ℕ) →
-    (row_at (changed rows key (record (row_at rows key) { report = no_report })) key).report ≡ no_report
-report_taken [] zero = refl
-report_taken [] (suc key) = refl
-report_taken (row ∷ rows) zero = refl
-report_taken (row ∷ rows) (suc key) = report_taken rows key
-
--- ---- a row of which nothing is reported
-
--- a report without anything is no report
-pub nothing_reported : (report : Readiness) → has_report report ≡ false → report ≡ no_report
-nothing_reported report none = by report.may_read report.may_write report.reads_on none
+-- the earlier of two moments is not after the second one
+bound_new : (nearest due : Option Instant) → IsNotBefore (earlier nearest due) due
+bound_new nearest None = tt
+bound_new None (Some due) = omega arith
+bound_new (Some nearest) (Some due) = by (nat_le (instant_nanos nearest) (instant_nanos due)) refl
   where
-    by : (may_read may_write reads_on : Bool) → (may_read || may_write || reads_on) ≡ false →
-        record { may_read = may_read; may_write = may_write; reads_on = reads_on } ≡ no_report
-    by false false false h = refl
-    by false false true h = absurd (true_not_false h)
-    by false true reads_on h = absurd (true_not_false h)
-    by true may_write reads_on h = absurd (true_not_false h)
+    by : (first : Bool) → nat_le (instant_nanos nearest) (instant_nanos due) ≡ first →
+        IsNotBefore (if first then Some nearest else Some due) (Some due)
+    by true e = leb-true (instant_nanos nearest) (instant_nanos due) e
+    by false e = omega arith
 
--- no report adds nothing
-pub merged_with_nothing : (known report : Readiness) → has_report report ≡ false → known ≡ merged known report
-merged_with_nothing known report none =
-    by known.may_read known.may_write known.reads_on
-    ∙ ap (λ (r : Readiness). merged known r) (sym (nothing_reported report none))
+no_bound : (nearest : Option Instant) → IsNotBefore nearest None
+no_bound None = tt
+no_bound (Some nearest) = tt
+
+never_past : (now : Option Instant) → is_past now None ≡ false
+never_past None = refl
+never_past (Some now) = refl
+
+-- no moment is past if its bound is not
+pub not_past : (now due other : Option Instant) → IsNotBefore due other → is_past now due ≡ false → is_past now other ≡ false
+not_past None due other h e = refl
+not_past (Some now) due None h e = refl
+not_past (Some now) None (Some other) h e = absurd h
+not_past (Some now) (Some due) (Some other) h e =
+    let later = leb-false (instant_nanos due) (instant_nanos now) e in
+    lt-leb (instant_nanos other) (instant_nanos now) (omega (arith, later, h))
+
+-- ---- places
+
+none_among : (place : ℕ) (places : List ℕ) → is_among place places ≡ false → occurrences_of place places ≡ 0
+none_among place places e =
+    let none = ltb-false 0 (occurrences_of place places) e in
+    omega (arith, none)
+
+not_among : (place : ℕ) (places : List ℕ) → occurrences_of place places ≡ 0 → is_among place places ≡ false
+not_among place places e = ap (λ (n : ℕ). nat_lt 0 n) e
+
+among : (place : ℕ) (places : List ℕ) → 0 < occurrences_of place places → is_among place places ≡ true
+among place places lt = lt-ltb 0 (occurrences_of place places) lt
+
+-- a place that is in neither of two lists
+pub in_neither : (place : ℕ) (one other : List ℕ) → is_among place (one ++ other) ≡ false →
+    (is_among place one ≡ false) × (is_among place other ≡ false)
+in_neither place one other e =
+    let none = none_among place (one ++ other) e in
+    let both = occurrences_both place one other in
+    (not_among place one (omega (arith, none, both)), not_among place other (omega (arith, none, both)))
+
+pub in_first : (place : ℕ) (one other : List ℕ) → is_among place one ≡ true → is_among place (one ++ other) ≡ true
+in_first place one other e =
+    let some = ltb-true 0 (occurrences_of place one) e in
+    among place (one ++ other) (omega (arith, some, occurrences_both place one other))
+
+in_last : (place : ℕ) (places : List ℕ) → is_among place (places ++ place ∷ []) ≡ true
+in_last place places =
+    let own : occurrences_of place (place ∷ []) ≡ is_same place place + 0 = refl in
+    among place (places ++ place ∷ [])
+    (omega (arith, own, same_is_one place, occurrences_both place places (place ∷ [])))
+
+-- ---- a poll
+
+half : (place : ℕ) (side : Side) → key_of place side / 2 ≡ place
+half place Bot = omega arith
+half place Server = omega arith
+
+-- a place of which no event is keeps its rows
+pub row_untouched : (first place : ℕ) (side : Side) (events : List SocketEvent) (rows : List Row) → key_of place side < first →
+    is_among place (event_places first events) ≡ false →
+    row_at (with_events rows events) (key_of place side) ≡ row_at rows (key_of place side)
+row_untouched first place side [] rows lt away = refl
+row_untouched first place side (event ∷ events) rows lt away =
+    by (nat_lt event.key first) refl away (row_untouched first place side events (with_event rows event) lt)
   where
-    by : (may_read may_write reads_on : Bool) →
-        record { may_read = may_read; may_write = may_write; reads_on = reads_on }
-        ≡ merged (record { may_read = may_read; may_write = may_write; reads_on = reads_on }) no_report
-    by false false false = refl
-    by false false true = refl
-    by false true false = refl
-    by false true true = refl
-    by true may_write reads_on = by_read may_write reads_on
-      where
-        by_read : (may_write reads_on : Bool) →
-            record { may_read = true; may_write = may_write; reads_on = reads_on }
-            ≡ merged (record { may_read = true; may_write = may_write; reads_on = reads_on }) no_report
-        by_read false false = refl
-        by_read false true = refl
-        by_read true false = refl
-        by_read true true = refl
+    key : ℕ
+    key = key_of place side
+    by : (inside : Bool) → nat_lt event.key first ≡ inside →
+        is_among place (if inside then event.key / 2 ∷ event_places first events else event_places first events) ≡ false →
+        (is_among place (event_places first events) ≡ false →
+        row_at (with_events (with_event rows event) events) key ≡ row_at (with_event rows event) key) →
+        row_at (with_events (with_event rows event) events) key ≡ row_at rows key
+    by true e none rest =
+        let zero_of = none_among place (event.key / 2 ∷ event_places first events) none in
+        let far : key ≢ event.key = λ same.
+            let at : event.key / 2 ≡ place = ap (λ (n : ℕ). n / 2) (sym same) ∙ half place side in
+            let own : is_same (event.key / 2) place ≡ 1 = ap (λ (n : ℕ). is_same n place) at ∙ same_is_one place in
+            absurd (omega (arith, zero_of, own)) in
+        rest (not_among place (event_places first events) (omega (arith, zero_of)))
+        ∙ row_elsewhere rows event.key key _ far
+    by false e none rest =
+        let past = ltb-false event.key first e in
+        let far : key ≢ event.key = λ same. absurd (omega (arith, past, lt, same)) in
+        rest none ∙ row_elsewhere rows event.key key _ far
 
--- the rows stay as they are without the report of one that has none
-unreported : (rows : List Row) (key : ℕ) → (row_at rows key).report ≡ no_report →
-    rows ≡ changed rows key (record (row_at rows key) { report = no_report })
-unreported [] zero none = refl
-unreported [] (suc key) none = refl
-unreported (row ∷ rows) zero none = ap (λ (report : Readiness). record row { report = report } ∷ rows) none
-unreported (row ∷ rows) (suc key) none = ap (λ (l : List Row). row ∷ l) (unreported rows key none)
+-- Those of which something was reported are woken, and none is late.
+pub wakes_reported : (events : List SocketEvent) (start old : Table) → start ≡ old → AreBounded start.due start.deadlines →
+    is_past start.reading start.due ≡ false → WakesPlaces events (event_places (2 * length old.deadlines) events) old old
+wakes_reported events start old view bounded early =
+    subst (λ (t : Table). WakesPlaces events (event_places (2 * length t.deadlines) events) t t) view (record {
+      reported = λ place there. there;
+      asleep = λ place away. (refl, not_past start.reading start.due (deadline_at start place) (bounded place) early);
+      places = refl;
+      bounded = bounded;
+      same = refl;
+    })
 
-pub table_unreported : (table : Table) (key : ℕ) → is_reported_at table key ≡ false → table ≡ without_report table key
-table_unreported table key none =
-    ap (λ (l : List Row). record table { rows = l })
-    (unreported table.rows key (nothing_reported (row_at table.rows key).report none))
+-- Those of which something was reported are woken, and then those that are late.
+pub wakes_late : (events : List SocketEvent) (late : List ℕ) (start old new : Table) (was : List (Option Instant)) → start ≡ old →
+    was ≡ start.deadlines → new ≡ record start { deadlines = new.deadlines; due = new.due } →
+    length new.deadlines ≡ length was → AreBounded new.due new.deadlines →
+    ((place : ℕ) → is_among place late ≡ false →
+    (due_at new.deadlines place ≡ due_at was place) × (is_past start.reading (due_at was place) ≡ false)) →
+    WakesPlaces events (event_places (2 * length old.deadlines) events ++ late) old new
+wakes_late events late start old new was view value same places bounded asleep =
+    subst (λ (t : Table). WakesPlaces events (event_places (2 * length t.deadlines) events ++ late) t new) view (record {
+      reported = λ place there. in_first place (event_places (2 * length start.deadlines) events) late there;
+      asleep = λ place away.
+          let h = asleep place (in_neither place (event_places (2 * length start.deadlines) events) late away).1 in (
+            h.0 ∙ ap (λ (l : List (Option Instant)). due_at l place) value,
+            ap (λ (l : List (Option Instant)). is_past start.reading (due_at l place)) (sym value) ∙ h.1,
+          );
+      places = places ∙ ap length value;
+      bounded = bounded;
+      same = same;
+    })
 
--- ---- the bounds of the reports
+-- a list of the same length takes the place of all items
+pub refilled : (now rest : List (Option Instant)) (count : ℕ) → length now ≡ count → take count (now ++ rest) ≡ now
+refilled [] rest zero e = refl
+refilled [] rest (suc count) e = absurd (omega (arith, e))
+refilled (due ∷ now) rest zero e = absurd (omega (arith, e))
+refilled (due ∷ now) rest (suc count) e = ap (λ (l : List (Option Instant)). due ∷ l) (refilled now rest count (omega (arith, e)))
 
--- a row that was not changed
-changed_elsewhere : (rows : List Row) (at : ℕ) (row : Row) (key : ℕ) → (key ≡ at → ⊥) →
-    row_at (changed rows at row) key ≡ row_at rows key
-changed_elsewhere [] at row key far = refl
-changed_elsewhere (other ∷ rows) zero row zero far = absurd (far refl)
-changed_elsewhere (other ∷ rows) zero row (suc key) far = refl
-changed_elsewhere (other ∷ rows) (suc at) row zero far = refl
-changed_elsewhere (other ∷ rows) (suc at) row (suc key) far =
-    changed_elsewhere rows at row key (λ same. far (ap (λ (n : ℕ). suc n) same))
+-- ---- what is woken for its deadline
 
--- the row that was
-changed_here : (rows : List Row) (at : ℕ) (row : Row) → has_report (row_at (changed rows at row) at).report ≡ true →
-    has_report row.report ≡ true
-changed_here [] at row some = absurd (true_not_false (sym some))
-changed_here (other ∷ rows) zero row some = some
-changed_here (other ∷ rows) (suc at) row some = changed_here rows at row some
+-- The places before this one were looked at, and those are woken of which the deadline is past.
+pub record AreWoken (now : Option Instant) (place : ℕ) (start : List (Option Instant)) (queue : ReadyView)
+    (deadlines : List (Option Instant)) (ready : ReadyView) (nearest : Option Instant) : Type 0 where
+  pub late : List ℕ
+  pub queued : ready ≡ woken_all late queue
+  pub asleep : (k : ℕ) → k < place → is_among k late ≡ false →
+      (due_at deadlines k ≡ due_at start k) × (is_past now (due_at start k) ≡ false)
+  pub rest : (k : ℕ) → place ≤ k → due_at deadlines k ≡ due_at start k
+  pub bounded : (k : ℕ) → k < place → IsNotBefore nearest (due_at deadlines k)
 
--- the reports lie within new bounds after one row was changed, if the others did within the old ones and it does
-pub within_changed : (rows : List Row) (at : ℕ) (row : Row) (first after new_first new_after : ℕ) →
-    AreReportsWithin first after rows →
-    ((key : ℕ) → (key ≡ at → ⊥) → first ≤ key → key < after → (new_first ≤ key) × (key < new_after)) →
-    (has_report row.report ≡ true → (new_first ≤ at) × (at < new_after)) →
-    AreReportsWithin new_first new_after (changed rows at row)
-within_changed rows at row first after new_first new_after within others own = λ key some. by key some (key == at) refl
+pub none_woken : (now : Option Instant) (start : List (Option Instant)) (queue : ReadyView) →
+    AreWoken now 0 start queue start queue None
+none_woken now start queue = record {
+  late = [];
+  queued = refl;
+  asleep = λ k few. absurd (omega (arith, few));
+  rest = λ k le. refl;
+  bounded = λ k few. absurd (omega (arith, few));
+}
+
+-- one more is late, and is woken
+pub one_late : (now : Option Instant) (place : ℕ) (start deadlines : List (Option Instant)) (queue ready new : ReadyView)
+    (nearest : Option Instant) → AreWoken now place start queue deadlines ready nearest → new ≡ woken ready place →
+    AreWoken now (place + 1) start queue (slice_set deadlines place None) new nearest
+one_late now place start deadlines queue ready new nearest h e = record {
+  late = h.late ++ place ∷ [];
+  queued = e ∙ ap (λ (q : ReadyView). woken q place) h.queued ∙ sym (woken_both h.late (place ∷ []) queue);
+  asleep = λ k few away.
+      let far : k ≢ place = λ same. differ k away same in
+      let kept = h.asleep k (omega (arith, far, few)) (in_neither k h.late (place ∷ []) away).0 in
+      (set_elsewhere deadlines place k None far ∙ kept.0, kept.1);
+  rest = λ k le.
+      let far : k ≢ place = λ same. absurd (omega (arith, same, le)) in
+      set_elsewhere deadlines place k None far ∙ h.rest k (omega (arith, le));
+  bounded = λ k few. by k few (k == place) refl;
+}
   where
-    by : (key : ℕ) → has_report (row_at (changed rows at row) key).report ≡ true → (here : Bool) → (key == at) ≡ here →
-        (new_first ≤ key) × (key < new_after)
-    by key some true e =
-        let same = eqb-true key at e in
-        subst (λ (k : ℕ). (new_first ≤ k) × (k < new_after)) (sym same)
-        (own (changed_here rows at row
-        (subst (λ (k : ℕ). has_report (row_at (changed rows at row) k).report ≡ true) same some)))
-    by key some false e =
-        let differ = eqb-false key at e in
-        let far : key ≡ at → ⊥ = λ same. differ same in
-        let was = within key (subst (λ (r : Row). has_report r.report ≡ true) (changed_elsewhere rows at row key far) some) in
-        others key far was.0 was.1
+    differ : (k : ℕ) → is_among k (h.late ++ place ∷ []) ≡ false → k ≡ place → ⊥
+    differ k away same =
+        let there = subst (λ (n : ℕ). is_among n (h.late ++ place ∷ []) ≡ true) (sym same) (in_last place h.late) in
+        absurd (cc)
+    by : (k : ℕ) → k < place + 1 → (here : Bool) → (k == place) ≡ here →
+        IsNotBefore nearest (due_at (slice_set deadlines place None) k)
+    by k few true e =
+        subst (λ (d : Option Instant). IsNotBefore nearest d)
+        (sym (ap (λ (n : ℕ). due_at (slice_set deadlines place None) n) (eqb-true k place e) ∙ set_here deadlines place))
+        (no_bound nearest)
+    by k few false e =
+        let far : k ≢ place = eqb-false k place e in
+        subst (λ (d : Option Instant). IsNotBefore nearest d) (sym (set_elsewhere deadlines place k None far))
+        (h.bounded k (omega (arith, far, few)))
 
--- a row without its report has none
-pub cleared : {A : Type 0} {report : Readiness} → has_report report ≡ true → report ≡ no_report → A
-cleared some none = absurd (true_not_false (sym some ∙ ap has_report none))
+-- one more is not late
+pub one_later : (now : Option Instant) (place : ℕ) (start deadlines : List (Option Instant)) (queue ready : ReadyView)
+    (nearest new : Option Instant) → AreWoken now place start queue deadlines ready nearest → place < length deadlines →
+    is_past now (get_or deadlines place None) ≡ false → new ≡ earlier nearest (get_or deadlines place None) →
+    AreWoken now (place + 1) start queue deadlines ready new
+one_later now place start deadlines queue ready nearest new h lt early e = record {
+  late = h.late;
+  queued = h.queued;
+  asleep = λ k few away. still k few away (k == place) refl;
+  rest = λ k le. h.rest k (omega (arith, le));
+  bounded = λ k few. subst (λ (n : Option Instant). IsNotBefore n (due_at deadlines k)) (sym e) (by k few (k == place) refl);
+}
+  where
+    due : Option Instant
+    due = get_or deadlines place None
+    own : due_at deadlines place ≡ due
+    own = read_due deadlines place lt
+    first : due_at deadlines place ≡ due_at start place
+    first = h.rest place (omega arith)
+    still : (k : ℕ) → k < place + 1 → is_among k h.late ≡ false → (here : Bool) → (k == place) ≡ here →
+        (due_at deadlines k ≡ due_at start k) × (is_past now (due_at start k) ≡ false)
+    still k few away true f =
+        subst (λ (n : ℕ). (due_at deadlines n ≡ due_at start n) × (is_past now (due_at start n) ≡ false)) (sym (eqb-true k place f))
+        (first, ap (λ (d : Option Instant). is_past now d) (sym first ∙ own) ∙ early)
+    still k few away false f = let far : k ≢ place = eqb-false k place f in h.asleep k (omega (arith, far, few)) away
+    by : (k : ℕ) → k < place + 1 → (here : Bool) → (k == place) ≡ here → IsNotBefore (earlier nearest due) (due_at deadlines k)
+    by k few true f =
+        subst (λ (d : Option Instant). IsNotBefore (earlier nearest due) d)
+        (sym (ap (λ (n : ℕ). due_at deadlines n) (eqb-true k place f) ∙ own)) (bound_new nearest due)
+    by k few false f =
+        let far : k ≢ place = eqb-false k place f in
+        bound_kept nearest due (due_at deadlines k) (h.bounded k (omega (arith, far, few)))
+
+-- each place was looked at
+pub all_asleep : (now : Option Instant) (end : ℕ) (start deadlines : List (Option Instant)) (queue ready : ReadyView)
+    (nearest : Option Instant) → (h : AreWoken now end start queue deadlines ready nearest) → length start ≤ end →
+    (k : ℕ) → is_among k h.late ≡ false → (due_at deadlines k ≡ due_at start k) × (is_past now (due_at start k) ≡ false)
+all_asleep now end start deadlines queue ready nearest h le k away = by (nat_lt k end) refl
+  where
+    by : (inside : Bool) → nat_lt k end ≡ inside → (due_at deadlines k ≡ due_at start k) × (is_past now (due_at start k) ≡ false)
+    by true e = h.asleep k (ltb-true k end e) away
+    by false e =
+        let past = ltb-false k end e in
+        (
+          h.rest k (omega (arith, past)),
+          ap (λ (d : Option Instant). is_past now d) (past_end start k (omega (arith, past, le))) ∙ never_past now,
+        )
+
+pub all_bounded : (now : Option Instant) (end : ℕ) (start deadlines : List (Option Instant)) (queue ready : ReadyView)
+    (nearest : Option Instant) → AreWoken now end start queue deadlines ready nearest → length start ≤ end →
+    AreBounded nearest deadlines
+all_bounded now end start deadlines queue ready nearest h le = λ k. by k (nat_lt k end) refl
+  where
+    by : (k : ℕ) (inside : Bool) → nat_lt k end ≡ inside → IsNotBefore nearest (due_at deadlines k)
+    by k true e = h.bounded k (ltb-true k end e)
+    by k false e =
+        let past = ltb-false k end e in
+        subst (λ (d : Option Instant). IsNotBefore nearest d)
+        (sym (h.rest k (omega (arith, past)) ∙ past_end start k (omega (arith, past, le)))) (no_bound nearest)

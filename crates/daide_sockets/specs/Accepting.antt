@@ -7,14 +7,13 @@ use Rattle.std.specs.declared.io.ErrorKind.{ErrorKind}
 use Rattle.std.specs.declared.net.socket_addr.SocketAddr.{SocketAddr}
 use Rattle.std.specs.declared.io.ErrorKind.TheVariants as Kinds
 use Rattle.std.specs.declared.time.Instant.{Instant}
-use Rattle.daide_frame.specs.declared.side.Side.TheVariants.{Server}
 use Rattle.daide_io.specs.Network.{NetworkCall, AcceptsConnection, BeginsConnect, AsksConnect, Follows}
 use Rattle.daide_io.specs.declared.network.ConnectStatus.{ConnectStatus}
 use Rattle.daide_buffered_io.specs.declared.readiness.Readiness.{Readiness}
 use Rattle.daide_sockets.specs.declared.admission.Acceptor.{Acceptor}
 use Rattle.daide_sockets.specs.declared.admission.Declined.{Declined}
 use Rattle.daide_sockets.specs.declared.admission.Declined.TheVariants as Declines
-use Rattle.daide_sockets.specs.Table.{Table, key_of, listener_key, merged, report_at}
+use Rattle.daide_sockets.specs.Table.{Table, listener_key, merged, report_at}
 use Rattle.daide_sockets.specs.Times.{IsAfter, is_past}
 
 -- no bot is accepted for this many nanoseconds after a failed accept
@@ -104,11 +103,11 @@ ConnectsFrom {N = N} transition addresses place (suc count) old new = (mid : N) 
     × ConnectsFrom transition addresses place count old mid
     × (slice_get addresses (place + count) ≡ Some address) × ConnectsOnce transition address mid new
 
--- What is known of a connect, which may be none. It may have a result if its socket is writable by that, or by the report of
--- the server's row at its place. One that did not begin has failed.
+-- A connect may have a result if its socket is writable by what is known of it, or by the report of its row. One that did
+-- not begin has failed.
 abbrev pub may_connect : Table → ℕ → Option Readiness → Bool
-may_connect table place None = true
-may_connect table place (Some known) = (merged known (report_at table (key_of place Server))).may_write
+may_connect table key None = true
+may_connect table key (Some known) = (merged known (report_at table key)).may_write
 
 -- no call was made, or one that asks for the state of a connect
 abbrev pub AsksAtMostOnce : {N C : Type 0} → (N → NetworkCall C → N → Type 0) → N → N → Type 0

@@ -1,5 +1,5 @@
 -- The control connections of a run together: at most four. (own)
-use Rattle.std.specs.Prelude.{◌≡◌, ◌⊎◌, ℕ, Bool, true, false, ◌&&◌, ◌||◌, not, is_some, List, [], ◌∷◌, Option, Some, None, if◌then◌else◌}
+use Rattle.std.specs.Prelude.{◌≡◌, ◌⊎◌, ℕ, ◌+◌, ◌<◌, Bool, true, false, ◌&&◌, ◌||◌, not, is_some, List, [], ◌∷◌, Option, Some, None, if◌then◌else◌}
 use Rattle.std.specs.declared.time.Instant.{Instant}
 use Rattle.daide_io.specs.Network.{NetworkCall, AcceptsControl}
 use Rattle.daide_io.specs.Streams.{StreamCall}
@@ -9,7 +9,7 @@ use Rattle.daide_status.specs.declared.snapshot.RunStatus.{RunStatus}
 use Rattle.daide_status.specs.declared.snapshot.SessionRow.{SessionRow}
 use Rattle.daide_sockets.specs.Accepting.{is_accept_due}
 use Rattle.daide_sockets.specs.Control.{Advances, ShowsOn, has_control_work, control_due, stops_at, stops_now_at, gathers_at}
-use Rattle.daide_sockets.specs.Table.{Table, control_key, merged, watching}
+use Rattle.daide_sockets.specs.Table.{Table, control_connection_key, control_key, first_closing, listener_key, merged, report_at, watching}
 use Rattle.daide_sockets.specs.Times.{IsAfter}
 use Rattle.daide_sockets.specs.declared.control.Control.{Control}
 use Rattle.daide_sockets.specs.declared.control.ControlListener.{ControlListener}
@@ -23,12 +23,17 @@ use Rattle.std.specs.declared.io.Error.{Error}
 abbrev pub places : {S : Type 0} → Slots S → List (Option (ControlConnection S))
 places slots = slots.first ∷ slots.second ∷ slots.third ∷ slots.fourth ∷ []
 
--- a relation holds between each place and the same one of another list
+-- a relation, by the number of a place, holds between each place from this number on and the same one of another list
+abbrev pub EachFrom : {A : Type 0} → ℕ → (ℕ → A → A → Type 0) → List A → List A → Type 0
+EachFrom number relation [] [] = Unit {0}
+EachFrom number relation (one ∷ old) (later ∷ new) =
+    relation number one later × EachFrom (number + 1) relation old new
+EachFrom number relation [] (later ∷ new) = ⊥
+EachFrom number relation (one ∷ old) [] = ⊥
+
+-- the same for each place, by whatever number
 abbrev pub Each : {A : Type 0} → (A → A → Type 0) → List A → List A → Type 0
-Each relation [] [] = Unit {0}
-Each relation (one ∷ old) (later ∷ new) = relation one later × Each relation old new
-Each relation [] (later ∷ new) = ⊥
-Each relation (one ∷ old) [] = ⊥
+Each relation old new = EachFrom 0 (λ number. relation) old new
 
 -- whether a test passes at some connection
 abbrev pub at_place : {S : Type 0} → (ControlConnection S → Bool) → Option (ControlConnection S) → Bool
@@ -46,11 +51,17 @@ left_in false connection = None
 
 -- A place in a round: its connection takes what polls reported of it, and advances.
 abbrev pub PlaceAdvances : {S : Type 0} → (S → Option (List ℕ)) → (S → Option (List ℕ)) → (S → Option (List StreamCall)) →
-    RunStatus → Option Instant → Option (ControlConnection S) → Option (ControlConnection S) → Type 0
-PlaceAdvances to_give taken calls run now None new = new ≡ None
-PlaceAdvances {S} to_give taken calls run now (Some old) new = (report : Readiness) × (is_open : Bool) × (later : ControlConnection S)
+    RunStatus → Option Instant → Readiness → Option (ControlConnection S) → Option (ControlConnection S) → Type 0
+PlaceAdvances to_give taken calls run now report None new = new ≡ None
+PlaceAdvances {S} to_give taken calls run now report (Some old) new = (is_open : Bool) × (later : ControlConnection S)
     × Advances to_give taken calls run now (record old { readiness = merged old.readiness report }) is_open later
     × (new ≡ left_in is_open later)
+
+-- each place in a round, by the table at its beginning
+abbrev pub PlacesAdvance : {S : Type 0} → (S → Option (List ℕ)) → (S → Option (List ℕ)) → (S → Option (List StreamCall)) →
+    RunStatus → Table → List (Option (ControlConnection S)) → List (Option (ControlConnection S)) → Type 0
+PlacesAdvance to_give taken calls run table old new = EachFrom 0 (λ number. PlaceAdvances to_give taken calls run table.reading
+    (report_at table (control_connection_key table number))) old new
 
 -- a row is shown to the connection of a place
 abbrev pub PlaceShows : {S : Type 0} → SessionRow → Option (ControlConnection S) → Option (ControlConnection S) → Type 0
@@ -62,6 +73,10 @@ pub record IsAccepted {S : Type 0} (reading : Option Instant) (connection : Cont
   pub stage : connection.stage ≡ Reads
   pub line : connection.line.items ≡ []
   pub closes_at : IsAfter reading 2000000000 connection.closes_at
+
+-- a row of the listener for control connections, or of one of them
+abbrev pub IsControlRow : Table → ℕ → Type 0
+IsControlRow table key = (listener_key table < key) × (key < first_closing table)
 
 -- whether a place is free
 abbrev pub is_place_free : {S : Type 0} → Option (ControlConnection S) → Bool
@@ -119,26 +134,19 @@ abbrev pub watching_control : {S : Type 0} → Table → Control S → Table
 watching_control table control =
     watching_places (watching_listener table (has_free (places control.slots)) control.listener) (places control.slots)
 
--- A round of the control socket, with the status of the run and the reading of the clock at its beginning. Each connection
--- advances, and then at most one is accepted. A stop is ordered from the round on in which a connection requests it, and
--- stays so. Sessions are shown if a connection gathers a status.
+-- A round of the control socket, with the status of the run and the table at its beginning. Each connection advances, and
+-- then at most one is accepted. A stop is ordered from the round on in which a connection requests it, and stays so. Sessions are shown if a connection gathers a status.
 pub record BeginsRound {S : Type 0} (to_give taken : S → Option (List ℕ)) (calls : S → Option (List StreamCall))
-    (run : RunStatus) (reading : Option Instant) (old : Control S) (orders : Orders) (new : Control S) : Type 0 where
+    (run : RunStatus) (table : Table) (old : Control S) (orders : Orders) (new : Control S) : Type 0 where
   pub mid : List (Option (ControlConnection S))
-  pub advances : Each (PlaceAdvances to_give taken calls run reading) (places old.slots) mid
-  pub accepts : AcceptsOne reading mid (places new.slots)
+  pub advances : PlacesAdvance to_give taken calls run table (places old.slots) mid
+  pub accepts : AcceptsOne table.reading mid (places new.slots)
   pub stops : new.stops_accepting ≡ (old.stops_accepting || at_some (λ connection. stops_at connection.stage) (places new.slots))
   pub at_once : new.stops_now ≡ (old.stops_now || at_some (λ connection. stops_now_at connection.stage) (places new.slots))
   pub returned : orders ≡ record {
     stops_accepting = new.stops_accepting;
     shows_sessions = at_some (λ connection. gathers_at connection.stage) (places new.slots);
   }
-
--- a session is to be stopped in its next turn, and no turn stopped it before
-abbrev pub is_newly_stopped : Bool → Bool → Bool
-is_newly_stopped true false = true
-is_newly_stopped true true = false
-is_newly_stopped false is_stopped = false
 
 -- an accept of a control connection was made
 pub record MakesControlAccept {N C : Type 0} (transition : N → NetworkCall C → N → Type 0) (old : N) : Type 0 where

@@ -1,17 +1,18 @@
 -- The end of a run: rounds that advance the closing streams, with a wait after each. (own)
-use Rattle.std.specs.Prelude.{◌≡◌, ◌⊎◌, ℕ, zero, suc, Bool, List, [], Option}
+use Rattle.std.specs.Prelude.{◌≡◌, ◌⊎◌, ℕ, zero, suc, Bool, true, List, [], Option, None}
 use Rattle.std.specs.declared.time.Duration.{Duration}
 use Rattle.std.specs.declared.time.Instant.{Instant}
 use Rattle.daide_io.specs.Network.{NetworkCall}
 use Rattle.daide_io.specs.Streams.{StreamCall}
 use Rattle.daide_sockets.specs.Beside.{closings_watched}
-use Rattle.daide_sockets.specs.InTime.{watching_all}
 use Rattle.daide_sockets.specs.Lingering.{ClosingList, LooksAround, in_pass}
+use Rattle.daide_sockets.specs.InTime.{watching_all}
 use Rattle.daide_sockets.specs.Table.{Table, IsPollTime, PollsOnce, unwatched}
 
--- a wait that watches these alone, each with work or without it, and with its nearest deadline
-pub record WaitsFor {N C : Type 0} (transition : N → NetworkCall C → N → Type 0) (others : List (Bool × Option Instant)) (old : N)
-    (before : Table) (new : N) (after : Table) : Type 0 where
+-- The network is polled once, for the time of a poll that may block and watches these alone, each with work or without it, and
+-- with its nearest deadline; and no place.
+pub record WaitsOnce {N C : Type 0} (transition : N → NetworkCall C → N → Type 0) (others : List (Bool × Option Instant))
+    (old : N) (before : Table) (new : N) (after : Table) : Type 0 where
   pub time : Option Duration
   pub lasts : IsPollTime true (watching_all (unwatched before) others) time
   pub polls : PollsOnce transition time old (watching_all (unwatched before) others) new after
@@ -24,13 +25,14 @@ pub record Finish (N S : Type 0) : Type 0 where
 
 module _ {N C S : Type 0} (transition : N → NetworkCall C → N → Type 0) (to_give taken : S → Option (List ℕ))
     (calls : S → Option (List StreamCall)) where
-  -- A round at the end of a run. The closing streams are advanced at the last reading of the clock. Then a wait watches
-  -- each of them, and the clock is read for the next round.
+  -- A round at the end of a run, in which no place has a deadline. The closing streams are advanced at the last reading of
+  -- the clock. Then a wait watches each of them, and the clock is read for the next round.
   pub record FinishRound (old new : Finish N S) : Type 0 where
     pub table : Table
     pub clock : table.reading ≡ old.table.reading
+    pub none : table.due ≡ None
     pub advances : LooksAround to_give taken calls old.table.reading (in_pass old.closing) new.closing
-    pub rests : WaitsFor transition (closings_watched table new.closing.streams) old.network table new.network new.table
+    pub waits : WaitsOnce transition (closings_watched table new.closing.streams) old.network table new.network new.table
 
   -- this number of rounds
   abbrev pub FinishesFor : ℕ → Finish N S → Finish N S → Type 0

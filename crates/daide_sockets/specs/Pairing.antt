@@ -1,13 +1,13 @@
 -- The sockets of a run beside those of its sessions, and the effect of each system call on them. (own)
-use Rattle.std.specs.Prelude.{◌≡◌, ◌⊎◌, ℕ, ◌+◌, ◌-◌, ◌≤◌, nat_lt, true, false, List, [], ◌∷◌, ◌++◌, length, remove}
+use Rattle.std.specs.Prelude.{◌≡◌, ◌⊎◌, ℕ, ◌+◌, ◌-◌, ◌≤◌, nat_lt, Bool, true, false, List, [], ◌∷◌, ◌++◌, length, remove}
 use Rattle.std.specs.Prelude.{Option, Some, None, Ok, slice_get, slice_set, if◌then◌else◌}
 use Rattle.std.specs.declared.net.socket_addr.SocketAddr.{SocketAddr}
 use Rattle.daide_io.specs.Network.{NetworkCall, BeginsConnect, Follows}
 use Rattle.daide_io.specs.System.{SystemCall, Polls, Shows, Accepts, Connects, BeginsTurn, Rests, Retires, Notifies}
 use Rattle.daide_io.specs.declared.system.Connect.TheVariants.{Ready, Failed, Pending}
-use Rattle.daide_buffered_io.specs.Buffers.{Buffer}
+use Rattle.daide_buffered_io.specs.Buffers.{Buffer, with_stream}
 use Rattle.daide_buffered_io.specs.declared.readiness.Readiness.{Readiness}
-use Rattle.daide_io.specs.Streams.{StreamCall}
+use Rattle.daide_io.specs.Streams.{StreamCall, IsSameStream}
 use Rattle.std.specs.declared.time.Instant.{Instant}
 use Rattle.daide_sockets.specs.Times.{IsAfter}
 use Rattle.daide_sockets.specs.Lingering.{ClosingStream, ClosingList, IsClosingBound, begins_closing, WritesOut, ClosingsGoOn}
@@ -52,14 +52,23 @@ abbrev pub one_if_arrives : {S : Type 0} → Option (Arriving S) → ℕ
 one_if_arrives None = 0
 one_if_arrives (Some arrival) = 1
 
+-- the sum of a number of each place
+abbrev pub sum_over : {S : Type 0} → (Option (Arriving S) → ℕ) → List (Option (Arriving S)) → ℕ
+sum_over number [] = 0
+sum_over number (arrival ∷ arrivals) = number arrival + sum_over number arrivals
+
 -- how many connects are pending
 abbrev pub pending_in : {S : Type 0} → List (Option (Arriving S)) → ℕ
-pending_in [] = 0
-pending_in (arrival ∷ arrivals) = one_if_arrives arrival + pending_in arrivals
+pending_in arrivals = sum_over one_if_arrives arrivals
 
--- no bot at this place has a pending connect
-abbrev pub IsFreePlace : {S : Type 0} → List (Option (Arriving S)) → ℕ → Type 0
-IsFreePlace arrivals place = slice_get arrivals place ≡ Some None
+abbrev pub is_free_in : {S : Type 0} → Option (Option (Arriving S)) → Bool
+is_free_in None = false
+is_free_in (Some None) = true
+is_free_in (Some (Some arrival)) = false
+
+-- this is a place, and no bot there has a pending connect
+abbrev pub is_free_place : {S : Type 0} → List (Option (Arriving S)) → ℕ → Bool
+is_free_place arrivals place = is_free_in (slice_get arrivals place)
 
 -- ---- bots and their connects
 
@@ -120,16 +129,20 @@ abbrev pub with_room : {S : Type 0} → ClosingList S → ClosingList S
 with_room closing = if nat_lt (length closing.streams) 256 then closing
     else record closing { streams = remove closing.streams 0; next = closing.next - 1; pass_end = closing.pass_end - 1 }
 
--- One more stream closes, as the last, after the pass, at this reading of the clock, from which its bound is counted. Its
--- buffered bytes stay buffered, except for those that it took.
+-- One more stream closes, as the last, after the pass, at this reading of the clock, from which its bound is counted. It is
+-- followed under another key, which leaves its bytes and its trace as they are. Its buffered bytes stay buffered, except for
+-- those that it took.
 pub record ClosesAt {S : Type 0} (to_give taken : S → Option (List ℕ)) (calls : S → Option (List StreamCall))
     (reading : Option Instant) (old : ClosingList S) (stream : Buffer S) (new : ClosingList S) : Type 0 where
   pub key : ℕ
   pub known : Readiness
+  pub moved : S
+  pub is_same : IsSameStream to_give taken calls stream.stream moved
   pub bound : Option Instant
   pub bounded : IsClosingBound reading old.stall_time bound
   pub last : ClosingStream S
-  pub writes : WritesOut to_give taken calls reading (begins_closing old.stall_time bound key known stream) last
+  pub writes : WritesOut to_give taken calls reading
+      (begins_closing old.stall_time bound key known (with_stream stream moved)) last
   pub now : new ≡ record (with_room old) { streams = (with_room old).streams ++ last ∷ [] }
 
 -- the same at some reading
@@ -156,7 +169,7 @@ ClosesBoth {S} to_give taken calls old pair new = (mid : ClosingList S)
 pub record Comes {S : Type 0} (old : RunSockets S) (place : ℕ) (new : RunSockets S) : Type 0 where
   pub arrival : Arriving S
   pub came : new.came ≡ old.came + 1
-  pub free : IsFreePlace old.arrivals place
+  pub free : is_free_place old.arrivals place ≡ true
   pub arrivals : new.arrivals ≡ slice_set old.arrivals place (Some arrival)
   pub number : arrival.number ≡ new.came
   pub bot : IsFresh arrival.bot

@@ -1,7 +1,8 @@
 -- What the sockets of a run schedule: the timeouts with which sessions begin, accepts, and what a poll watches. (own)
-use Rattle.std.specs.Prelude.{◌≡◌, ℕ, ◌<◌, Bool, true, false, List, Option, Some, None}
+use Rattle.std.specs.Prelude.{◌≡◌, ℕ, ◌<◌, Bool, true, false, List, length, Option, Some, None}
 use Rattle.std.specs.declared.net.socket_addr.SocketAddr.{SocketAddr}
 use Rattle.std.specs.declared.time.Duration.{Duration}
+use Rattle.daide_frame.specs.declared.side.Side.TheVariants.{Server}
 use Rattle.daide_io.specs.Network.{NetworkCall}
 use Rattle.daide_io.specs.Streams.{StreamCall}
 use Rattle.daide_io.specs.System.{SystemCall, Polls, Shows, Accepts, Connects, BeginsTurn, Rests, Retires, Notifies}
@@ -9,12 +10,13 @@ use Rattle.daide_io.specs.declared.system.Connect.TheVariants.{Ready, Failed, Pe
 use Rattle.daide_buffered_io.specs.Buffers.{Buffer}
 use Rattle.daide_sockets.specs.declared.admission.Acceptor.{Acceptor}
 use Rattle.daide_sockets.specs.declared.ports.SocketPorts.{SocketPorts}
-use Rattle.daide_sockets.specs.Accepting.{is_bot_due, AcceptsThenConnects}
+use Rattle.daide_sockets.specs.Accepting.{is_bot_due, may_connect, AcceptsThenConnects}
 use Rattle.daide_sockets.specs.Beside.{listener_watched, others_watched}
 use Rattle.daide_sockets.specs.Lingering.{ClosingList, LooksAround, in_pass}
-use Rattle.daide_sockets.specs.Pairing.{Arriving, Paired, RunSockets, IsFreePlace, arrival_at, ClosesAt, ClosesBothAt, Transits}
-use Rattle.daide_sockets.specs.KeptRows.{KeepsRows}
-use Rattle.daide_sockets.specs.Table.{Table, IsNoTime, deadline_at}
+use Rattle.daide_sockets.specs.Pairing.{Arriving, Paired, RunSockets, is_free_place, arrival_at, ClosesAt, ClosesBothAt, Transits}
+use Rattle.daide_sockets.specs.KeptRows.{KeepsBeside}
+use Rattle.daide_sockets.specs.Rows.{AreRowsOf, closing_keys}
+use Rattle.daide_sockets.specs.Table.{Table, IsNoTime, deadline_at, key_of}
 use Rattle.daide_sockets.specs.Timers.{SessionTimers, BeginsAt, timers_of}
 use Rattle.daide_sockets.specs.Times.{is_past}
 use Rattle.daide_sockets.specs.Wakeups.{Wakes, PollsForPlaces}
@@ -50,9 +52,10 @@ pair_of ports = record { number = ports.number; bot = ports.bot.stream; server =
 
 -- ---- accepts
 
--- A bot may have this place, and a number is left for it.
+-- A bot may have this place, which has rows, and a number is left for it.
 abbrev pub HasRoomForBot : {N S : Type 0} → RunState N S → ℕ → Type 0
-HasRoomForBot state place = IsFreePlace state.arrivals place × (state.acceptor.came < 4294967295)
+HasRoomForBot state place = (place < length state.table.deadlines) × (is_free_place state.arrivals place ≡ true)
+    × (state.acceptor.came < 4294967295)
 
 -- The listener is asked for a bot at a place: with room for it exactly one accept is made if it is due, and then only
 -- connects for its bot. Otherwise no call is made. From then on a poll watches for bots too.
@@ -65,11 +68,13 @@ pub record AsksListener {N C S : Type 0} (transition : N → NetworkCall C → N
 
 -- ---- connects
 
--- the place of a bot whose connect is pending rests until the deadline of the connect, which is not past
-abbrev pub RestsForConnect : {N S : Type 0} → Option (Arriving S) → RunState N S → ℕ → RunState N S → Type 0
-RestsForConnect None old place new = new.table ≡ old.table
-RestsForConnect (Some arrival) old place new =
-    (deadline_at new.table place ≡ arrival.gives_up) × (is_past old.table.reading arrival.gives_up ≡ false)
+-- The place of a bot whose connect is pending rests until the deadline of the connect, which is not past. Until a poll
+-- reports something of it, the connect has no result.
+abbrev pub RestsForConnect : {S : Type 0} → Option (Arriving S) → Table → ℕ → Table → Type 0
+RestsForConnect None old place new = new ≡ old
+RestsForConnect (Some arrival) old place new = place < length old.deadlines →
+    (deadline_at new place ≡ arrival.gives_up) × (is_past old.reading arrival.gives_up ≡ false)
+    × (may_connect new (key_of place Server) arrival.known ≡ false)
 
 -- ---- calls
 
@@ -100,7 +105,7 @@ Schedules transition timers old (Connects place (Ready ports)) new =
     SameSchedule old new × BeginsAt old.table.reading old.times (timers ports)
 Schedules transition timers old (Connects place Failed) new = SameSchedule old new
 Schedules transition timers old (Connects place Pending) new =
-    SameSchedule old new × RestsForConnect (arrival_at old.arrivals place) old place new
+    SameSchedule old new × RestsForConnect (arrival_at new.arrivals place) old.table place new.table
 Schedules transition timers old (Shows ports status) new = SameSchedule old new
 Schedules transition timers old (BeginsTurn place before after) new = SameSchedule old new
 Schedules transition timers old (Rests place ports rests) new = SameSchedule old new
@@ -138,16 +143,21 @@ pub record AwaitsBots {N C S : Type 0} (transition : N → NetworkCall C → N �
 
 -- ---- all of it
 
--- All that a system call does to the sockets of a run: to its bots and its closing streams (`Transits`), as far as a
--- session's rest needs it (`Wakes`), what it schedules (`Schedules`), to its closing streams by the clock
--- (`ClosesByClock`), and to the rows beside those of the places (`KeepsRows`). `ports_in` is the content of ports.
+-- each taken row is that of one closing stream, and each closing stream has a row of its own
+abbrev pub HoldsRows : {N S : Type 0} → RunState N S → Type 0
+HoldsRows state = AreRowsOf state.table (closing_keys state.closing.streams)
+
+-- All that a system call does to the sockets of a run whose closing streams hold their rows, as they do after it: to its
+-- bots and its closing streams (`Transits`), as far as a session's rest needs it (`Wakes`), what it schedules (`Schedules`),
+-- to its closing streams by the clock (`ClosesByClock`), and what it keeps of the rows beside those of the places
+-- (`KeepsBeside`). `ports_in` is the content of ports.
 abbrev pub RunEvolves : {N C P S : Type 0} → (N → NetworkCall C → N → Type 0) → (S → Option (List ℕ)) →
     (S → Option (List ℕ)) → (S → Option (List StreamCall)) → (P → SocketPorts S) → RunState N S → SystemCall P →
     RunState N S → Type 0
-RunEvolves transition to_give taken calls ports_in old call new =
-    Transits to_give taken calls (λ ports. pair_of (ports_in ports)) (sockets_in old) call (sockets_in new)
+RunEvolves transition to_give taken calls ports_in old call new = HoldsRows old → HoldsRows new
+    × Transits to_give taken calls (λ ports. pair_of (ports_in ports)) (sockets_in old) call (sockets_in new)
     × Wakes transition calls (λ ports. (timers_of (ports_in ports)).sockets) (old.network, old.table) call
     (new.network, new.table)
     × Schedules transition (λ ports. timers_of (ports_in ports)) old call new
     × ClosesByClock to_give taken calls (λ ports. pair_of (ports_in ports)) old call new
-    × KeepsRows old.table old.closing.streams call new.table new.closing.streams
+    × KeepsBeside old.table call new.table

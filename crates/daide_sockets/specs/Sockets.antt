@@ -11,6 +11,12 @@ abbrev pub read_if : Bool → Readiness → Readiness
 read_if true known = record known { may_read = true }
 read_if false known = known
 
+-- The readiness of a socket that is followed under another key, if that is accepted. Otherwise it counts as readable and
+-- writable, since nothing more is reported of it.
+abbrev pub after_move : Bool → Readiness → Readiness
+after_move true known = known
+after_move false known = record known { may_read = true; may_write = true }
+
 abbrev pub is_some_byte : List ℕ → Bool
 is_some_byte [] = false
 is_some_byte (byte ∷ bytes) = true

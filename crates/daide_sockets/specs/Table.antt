@@ -1,6 +1,6 @@
 -- The table of a run: what polls reported of its sockets, the deadlines of its places, and the time of a poll. (own)
 use Rattle.std.specs.Prelude.{◌≡◌, ℕ, ◌+◌, ◌-◌, ◌*◌, ◌/◌, ◌<◌, ◌≤◌, Bool, true, false, not, ◌&&◌, ◌||◌, List, [], ◌∷◌, length}
-use Rattle.std.specs.Prelude.{Option, Some, None, All, replicate, slice_get, slice_set}
+use Rattle.std.specs.Prelude.{Option, Some, None, nat_lt, if◌then◌else◌, replicate, slice_get, slice_set}
 use Rattle.std.specs.Duration.{as_nanos}
 use Rattle.std.specs.Time.{instant_nanos}
 use Rattle.std.specs.declared.time.Duration.{Duration}
@@ -9,15 +9,11 @@ use Rattle.daide_frame.specs.declared.side.Side.{Side}
 use Rattle.daide_frame.specs.declared.side.Side.TheVariants.{Bot, Server}
 use Rattle.daide_buffered_io.specs.declared.readiness.Readiness.{Readiness}
 use Rattle.daide_io.specs.declared.network.SocketEvent.{SocketEvent}
+use Rattle.daide_sockets.specs.declared.table.Row.{Row}
 use Rattle.daide_io.specs.Deadline.{earlier, IsNotBefore}
 use Rattle.daide_sockets.specs.Times.{is_past}
 use Rattle.daide_io.specs.Network.{NetworkCall, Polls, ReadsClock}
 use Rattle.daide_io.specs.ReadyQueue.{is_among}
-
--- One row: whether a closing socket has it, and what polls reported of its socket since it last took the report.
-pub record Row : Type 0 where
-  pub is_taken : Bool
-  pub report : Readiness
 
 -- The last reading of the clock; the deadline of each place as it last came to rest, and a moment before which none of them
 -- is. Of what the next poll watches beside the places, whether something may be done at once, and the nearest deadline. The
@@ -137,9 +133,13 @@ deadline_in (Some due) = due
 abbrev pub deadline_at : Table → ℕ → Option Instant
 deadline_at table place = deadline_in (slice_get table.deadlines place)
 
+-- none of these deadlines is before a moment
+abbrev pub AreBounded : Option Instant → List (Option Instant) → Type 0
+AreBounded due deadlines = (place : ℕ) → IsNotBefore due (deadline_in (slice_get deadlines place))
+
 -- no place has a deadline before `due`
 abbrev pub AreDeadlinesBounded : Table → Type 0
-AreDeadlinesBounded table = (place : ℕ) → IsNotBefore table.due (deadline_at table place)
+AreDeadlinesBounded table = AreBounded table.due table.deadlines
 
 -- a new table for this number of places and of closing sockets
 abbrev pub new_table : ℕ → ℕ → Table
@@ -166,10 +166,6 @@ pub record ForgetsPlaces (old new : Table) : Type 0 where
   pub none : (place : ℕ) → deadline_at new place ≡ None
   pub places : length new.deadlines ≡ length old.deadlines
   pub same : new ≡ record old { deadlines = new.deadlines; due = None }
-
--- something was reported of a socket of a place since it last took the report
-abbrev pub is_place_reported : Table → ℕ → Bool
-is_place_reported table place = is_reported_at table (key_of place Bot) || is_reported_at table (key_of place Server)
 
 -- both sockets of a place take the reports of their rows
 abbrev pub without_reports : Table → ℕ → Table
@@ -213,10 +209,17 @@ pub record PollsOnce {N C : Type 0} (transition : N → NetworkCall C → N → 
   pub reads : transition polled (ReadsClock reading) new
   pub table : after ≡ record before { reading = latest before.reading reading; rows = with_events before.rows news }
 
+-- the places of those events whose key is less than `first`
+abbrev pub event_places : ℕ → List SocketEvent → List ℕ
+event_places first [] = []
+event_places first (event ∷ events) =
+    if nat_lt event.key first then event.key / 2 ∷ event_places first events else event_places first events
+
 -- The places that a poll wakes after it reported these events: each place of which it reported something, and each whose
 -- deadline is past. Any other place keeps its deadline.
 pub record WakesPlaces (news : List SocketEvent) (woken : List ℕ) (old new : Table) : Type 0 where
-  pub reported : All (λ event. event.key < 2 * length old.deadlines → is_among (event.key / 2) woken ≡ true) news
+  pub reported : (place : ℕ) → is_among place (event_places (2 * length old.deadlines) news) ≡ true →
+      is_among place woken ≡ true
   pub asleep : (place : ℕ) → is_among place woken ≡ false →
       (deadline_at new place ≡ deadline_at old place) × (is_past old.reading (deadline_at old place) ≡ false)
   pub places : length new.deadlines ≡ length old.deadlines

@@ -3,29 +3,28 @@
 //! Neither an accept nor a connect blocks. The server's name is resolved at the start. If it has several addresses,
 //! they are tried one after the other, within one deadline for all.
 
-ghost use Rattle.std.specs.Prelude.{◌≡◌, ◌≢◌, ◌⊎◌, ℕ, ◌+◌, ◌<◌, ◌≤◌, ◌++◌, ◌∷◌, [], Some, None, Err, true, false, IfOk, IfErr, IfSome, IfNone, IsSome, MatchResult, length, option_map};
+ghost use Rattle.std.specs.Duration.{as_nanos};
+ghost use Rattle.std.specs.Net.Socket.{socket_ip};
 ghost use Rattle.std.specs.Option.{is_some};
+ghost use Rattle.std.specs.Prelude.{◌≡◌, ◌≢◌, ◌⊎◌, ℕ, ◌+◌, ◌<◌, ◌≤◌, ◌++◌, ◌∷◌, [], Some, None, Err, true, false, IfOk, IfErr, IfSome, IfNone, IsSome, length};
 ghost use Rattle.daide_buffered_io.specs.Buffers.{Buffer};
 ghost use Rattle.daide_io.specs.Network.{AsksConnect, StopsListening};
-ghost use Rattle.daide_sockets.specs.Beside.{may_connect, arrivals_watched, listener_watched};
-ghost use Rattle.daide_sockets.specs.InTime.{watching_all};
-ghost use Rattle.daide_sockets.specs.Pairing.{ConnectsTo};
-ghost use Rattle.daide_sockets.specs.Rows.{HandsRows, KeepsRows, arrival_keys, connect_key, key_in, result_key, listener_keys};
-ghost use Rattle.daide_sockets.specs.Table.{watching, no_report, report_at};
-ghost use Rattle.daide_sockets.specs.Accepting.{is_accept_made, is_accept_due, accept_pause, ReportsAccept, AcceptsOnce, AcceptsOneBot, AsksAtMostOnce, BringsNoBot, ConnectsFrom, TriesOn, GivesConnection, Pauses};
+ghost use Rattle.daide_settings.specs.Ranges.{host_of, may_come};
+ghost use Rattle.daide_sockets.specs.Accepting.{is_accept_made, is_bot_due, may_connect, accept_pause, ReportsAccept, AcceptsOnce, AcceptsOneBot};
+ghost use Rattle.daide_sockets.specs.Accepting.{AsksAtMostOnce, BringsNoBot, ConnectsFrom, TriesOn, GivesConnection, Pauses};
+ghost use Rattle.daide_sockets.specs.Beside.{listener_watched};
+ghost use Rattle.daide_sockets.specs.KeptRows.{ChangesRows};
+ghost use Rattle.daide_sockets.specs.Pairing.{ConnectsTo, StaysPending, IsFreshConnect, IsFresh, IsJoined, pending_in};
 ghost use Rattle.daide_sockets.specs.Present.{HasRoomForOne};
-ghost use Rattle.std.specs.Duration.{as_nanos};
+ghost use Rattle.daide_sockets.specs.Table.{listener_key, merged, report_at, watching};
 ghost use Rattle.daide_sockets.specs.Timers.{BeginsAt, timers_of};
 ghost use Rattle.daide_sockets.specs.Times.{IsAfter, IsStallEnd, is_past};
-ghost use Rattle.std.specs.Net.Socket.{socket_ip};
-ghost use Rattle.daide_settings.specs.Ranges.{host_of, may_come};
-ghost use Rattle.daide_sockets.specs.Pairing.{StaysPending, IsFreshConnect, IsFresh, IsJoined};
 
 use crate::poller::Poller;
 use crate::ports::SocketPorts;
 use crate::present::Present;
 use crate::socket::Socket;
-use crate::table::{SocketTable, after, bot_key, is_past, merged, server_key};
+use crate::table::{SocketTable, after, is_past, merged};
 use daide_buffered_io::pool::Pool;
 use daide_buffered_io::readiness::Readiness;
 use daide_io::duplex::Duplex;
@@ -35,9 +34,6 @@ use std::io::ErrorKind;
 use std::marker::Model;
 use std::net::SocketAddr;
 use std::time::{Duration, Instant};
-
-/// The key of a listener that is closed: that of no row, since a table has fewer.
-const NO_ROW: usize = usize::MAX;
 
 /// The pause after a failed accept, for example for lack of descriptors, in milliseconds.
 pub(crate) const ACCEPT_PAUSE: u64 = 100;
@@ -54,13 +50,11 @@ pub(crate) enum Declined {
 /// The state of the network's listener, with a pause after a failed accept.
 #[derive(Drop)]
 pub struct Acceptor {
-    /// The key of its row; `NO_ROW` once it is closed.
-    key: usize,
     /// What is known of the listener without a system call.
     readiness: Readiness,
     /// The end of the pause after a failed accept; `None` if there is no pause.
     resumes_at: Option<Instant>,
-    /// Whether it was asked for a bot in this round, so that the wait at its end is for bots too.
+    /// Whether it was asked for a bot since the last poll, so that the next one is for bots too.
     awaits_bots: bool,
     /// Whether the listener is closed.
     is_closed: bool,
@@ -73,15 +67,13 @@ impl Acceptor {
     pub fn new<N: Network>(poller: &mut Poller<N>) -> Option<Acceptor>
         ensures begins { IfSome result (λ acceptor. (acceptor.came ≡ 0) × (acceptor.resumes_at ≡ None)
             × (acceptor.awaits_bots ≡ false) × (acceptor.is_closed ≡ false)) }
-        ensures rows { IfSome result (λ acceptor.
-            HandsRows poller.old.table [] poller.new.table (listener_keys acceptor)) }
+        ensures table { poller.new.table ≡ poller.old.table }
     {
         let key = poller.table.listener_key();
         if !poller.network.listen(key) {
             return None;
         }
         Some(Acceptor {
-            key,
             readiness: Readiness::UNKNOWN,
             resumes_at: None,
             awaits_bots: false,
@@ -99,7 +91,6 @@ impl Acceptor {
             self.new ≡ record self.old { awaits_bots = false } }
         ensures unasked { self.new.awaits_bots ≡ false }
         ensures came { self.new.came ≡ self.old.came }
-        ensures row { listener_keys self.new ≡ listener_keys self.old }
     {
         self.awaits_bots = false;
         if is_past(now, self.resumes_at) {
@@ -108,14 +99,14 @@ impl Acceptor {
         }
     }
 
-    /// Has the wait at the end of this round be for bots too.
+    /// Has the next poll be for bots too.
     pub(crate) fn await_bots(&mut self)
         ensures { self.new ≡ record self.old { awaits_bots = true } }
     {
         self.awaits_bots = true;
     }
 
-    /// Has the next wait watch the listener: it does not block if it is for bots too and an accept is due, and lasts at
+    /// Has the next poll watch the listener: it does not block if it is for bots too and an accept is due, and lasts at
     /// most until the end of the pause.
     pub fn watch(&self, table: &mut SocketTable)
         ensures { table.new ≡ watching table.old (listener_watched table.old self.now).0
@@ -125,31 +116,14 @@ impl Acceptor {
         table.watch(is_due, self.resumes_at);
     }
 
-    /// Frees the row of the listener, unless it is closed already.
-    fn free_row(&self, table: &mut SocketTable)
-        ensures rows { HandsRows table.old (listener_keys self.now) table.new [] }
-        ensures clock { table.new.reading ≡ table.old.reading }
-    {
-        if self.is_closed {
-            return;
-        }
-        table.release(self.key);
-    }
-
-    /// Closes the listener: no bot is accepted any more, and no wait is for one. Its row is free then, and its key names
-    /// none, since another socket may get that row.
+    /// Closes the listener: no bot is accepted any more, and no poll is for one.
     pub(crate) fn close<N: Network>(&mut self, poller: &mut Poller<N>)
         ensures came { self.new.came ≡ self.old.came }
         ensures none { (self.new.awaits_bots ≡ false) × (self.new.resumes_at ≡ None) }
         ensures closed { self.new.is_closed ≡ true }
-        ensures row { (self.new.key ≡ usize.MAX) × (self.new.readiness.may_read ≡ false) }
-        ensures rows { HandsRows poller.old.table (listener_keys self.old) poller.new.table (listener_keys self.new) }
-        ensures clock { poller.new.table.reading ≡ poller.old.table.reading }
+        ensures table { poller.new.table ≡ poller.old.table }
         ensures closes { N.transition poller.old.network StopsListening poller.new.network }
     {
-        self.free_row(&mut poller.table);
-        self.key = NO_ROW;
-        self.readiness.may_read = false;
         self.awaits_bots = false;
         self.resumes_at = None;
         self.is_closed = true;
@@ -177,12 +151,16 @@ impl Acceptor {
         self.resumes_at.is_some()
     }
 
-    /// Returns whether an accept is made now: the listener is ready by the table, and no pause is under way.
+    /// Returns whether an accept is made now: the listener is not closed, it is ready by the table, and no pause is under
+    /// way.
     pub(crate) fn is_due(&self, table: &SocketTable) -> bool
-        ensures { result ≡ is_accept_due table.now self.now.key self.now.readiness self.now.resumes_at }
+        ensures { result ≡ is_bot_due table.now self.now }
     {
+        if self.is_closed {
+            return false;
+        }
         match self.resumes_at {
-            None => self.readiness.may_read || table.report(self.key).may_read,
+            None => self.readiness.may_read || table.report(table.listener_key()).may_read,
             Some(_) => is_past(table.now(), self.resumes_at),
         }
     }
@@ -202,24 +180,22 @@ impl Acceptor {
         ensures came { self.new.came ≡ self.old.came }
         ensures awaited { self.new.awaits_bots ≡ self.old.awaits_bots }
         ensures clock { poller.new.table.reading ≡ poller.old.table.reading }
-        ensures once { is_accept_due poller.old.table self.old.key self.old.readiness self.old.resumes_at ≡ true →
+        ensures once { is_bot_due poller.old.table self.old ≡ true →
             AcceptsOnce N.transition poller.old.network poller.new.network result }
-        ensures not_made { is_accept_due poller.old.table self.old.key self.old.readiness self.old.resumes_at ≡ false →
+        ensures not_made { is_bot_due poller.old.table self.old ≡ false →
             (result ≡ None) × (poller.new.network ≡ poller.old.network) }
         ensures left { result ≡ None →
-            is_accept_due poller.new.table self.new.key self.new.readiness self.new.resumes_at ≡ false }
+            is_bot_due poller.new.table self.new ≡ false }
         ensures due { IfSome result (λ _.
-            is_accept_due poller.old.table self.old.key self.old.readiness self.old.resumes_at ≡ true) }
+            is_bot_due poller.old.table self.old ≡ true) }
         ensures given { IfSome result (λ _. GivesConnection N.transition poller.old.network) }
-        ensures rows { KeepsRows poller.old.table poller.new.table }
-        ensures key { self.new.key ≡ self.old.key }
-        ensures row { listener_keys self.new ≡ listener_keys self.old }
+        ensures table { ChangesRows (λ key. key ≡ listener_key poller.old.table) poller.old.table poller.new.table }
     {
-        // Most rounds of a run end here.
         if !self.is_due(&poller.table) {
             return None;
         }
-        let report = poller.table.take_report(self.key);
+        let key = poller.table.listener_key();
+        let report = poller.table.take_report(key);
         self.readiness = merged(self.readiness, report);
         let accepted = self.accept_at(&mut poller.network, poller.table.now());
         match accepted {
@@ -254,8 +230,7 @@ impl Acceptor {
         ensures failed { (kind : ErrorKind) → result ≡ Err (Declined.Failed kind) →
             Pauses now kind self.new.resumes_at × (self.new.readiness.may_read ≡ false) }
         ensures left { IfErr result (λ _. is_accept_made now self.new.readiness.may_read self.new.resumes_at ≡ false) }
-        ensures key { self.new.key ≡ self.old.key }
-        ensures row { listener_keys self.new ≡ listener_keys self.old }
+        ensures open { self.new.is_closed ≡ self.old.is_closed }
         ensures came { self.new.came ≡ self.old.came }
         ensures awaited { self.new.awaits_bots ≡ self.old.awaits_bots }
     {
@@ -303,7 +278,7 @@ impl Acceptor {
     /// Returns the next bot that came: its session's number, its socket and its address. It is added to those present.
     ///
     /// Fails with the address of a bot that may not come by the ranges and the limit `rules`, beside those present: its
-    /// connection is closed at once. The next wait does not block then, since an accept is still due: the system does not
+    /// connection is closed at once. The next poll does not block then, since an accept is still due: the system does not
     /// report again the bots that wait behind it. Fails with no address if none came, if the system refuses to follow it,
     /// or if all numbers are given. After a refusal a pause begins, as after a failed accept.
     ///
@@ -315,16 +290,16 @@ impl Acceptor {
     ///
     /// `not_made`, `due`: if none is due, or if all numbers are given, no call is made, and no bot is returned.
     ///
-    /// `kept`: a connection that was accepted is closed only if its bot may not come, if no row or no place is left for it, or
-    /// if the system refuses to follow it.
+    /// `kept`: a connection that was accepted is closed only if its bot may not come, if the list of those present has no room,
+    /// or if the system refuses to follow it under this key.
     ///
-    /// `awaited`: the wait of this round is for bots if it was.
+    /// `awaited`: the next poll is for bots if it was.
     ///
     /// `left`: an accept is still due only if one was made that gave a connection: of a bot that may not come, or of one that
     /// was refused. After a refusal it is due only if no pause could begin, without a clock (`refused`).
     pub(crate) fn next_bot<'w, N: Network>(
         &mut self,
-        place: usize,
+        key: usize,
         poller: &mut Poller<N>,
         pool: &'w Pool,
         rules: (&[AddressRange], u16),
@@ -333,18 +308,18 @@ impl Acceptor {
         ensures one { IfOk result (λ bot. (self.new.came ≡ self.old.came + 1) × (bot.0 ≡ self.new.came)
             × IsFresh bot.1.stream) }
         ensures none { IfErr result (λ _. self.new.came ≡ self.old.came) }
-        ensures once { is_accept_due poller.old.table self.old.key self.old.readiness self.old.resumes_at ≡ true →
+        ensures once { is_bot_due poller.old.table self.old ≡ true →
             self.old.came < u32.MAX → AcceptsOneBot N.transition poller.old.network poller.new.network }
         ensures not_made { (self.old.came < u32.MAX →
-            is_accept_due poller.old.table self.old.key self.old.readiness self.old.resumes_at ≡ false) →
+            is_bot_due poller.old.table self.old ≡ false) →
             poller.new.network ≡ poller.old.network }
         ensures due { IfOk result (λ _. (self.old.came < u32.MAX)
-            × (is_accept_due poller.old.table self.old.key self.old.readiness self.old.resumes_at ≡ true)) }
+            × (is_bot_due poller.old.table self.old ≡ true)) }
         ensures kept { IfErr result (λ _. self.old.came < u32.MAX →
-            is_accept_due poller.old.table self.old.key self.old.readiness self.old.resumes_at ≡ true →
+            is_bot_due poller.old.table self.old ≡ true →
             HasRoomForOne present.old → BringsNoBot N.transition
             (λ address. may_come rules.entry.0.now rules.entry.1 present.old.hosts.items (host_of (socket_ip address)))
-            poller.old.network poller.new.table poller.new.network) }
+            poller.old.network poller.new.network) }
         ensures clock { poller.new.table.reading ≡ poller.old.table.reading }
         ensures allowed { IfOk result (λ bot. may_come rules.entry.0.now rules.entry.1 present.old.hosts.items
             (host_of (socket_ip bot.2)) ≡ true) }
@@ -355,13 +330,13 @@ impl Acceptor {
         ensures same { IfErr result (λ _. present.new ≡ present.old) }
         ensures awaited { self.new.awaits_bots ≡ self.old.awaits_bots }
         ensures left { IfErr result (λ _. self.old.came < u32.MAX →
-            is_accept_due poller.new.table self.new.key self.new.readiness self.new.resumes_at ≡ true →
+            is_bot_due poller.new.table self.new ≡ true →
             GivesConnection N.transition poller.old.network) }
         ensures refused { result ≡ Err None → self.old.came < u32.MAX →
-            is_accept_due poller.new.table self.new.key self.new.readiness self.new.resumes_at ≡ true →
+            is_bot_due poller.new.table self.new ≡ true →
             Pauses poller.old.table.reading ErrorKind.Other None }
-        ensures rows { HandsRows poller.old.table [] poller.new.table (result_key (λ bot. bot.1.key) result) }
-        ensures row { listener_keys self.new ≡ listener_keys self.old }
+        ensures table { ChangesRows (λ row. (row ≡ listener_key poller.old.table) ⊎ (row ≡ key)) poller.old.table
+            poller.new.table }
         ensures declined { (address : SocketAddr) → result ≡ Err (Some address) →
             may_come rules.entry.0.now rules.entry.1 present.old.hosts.items (host_of (socket_ip address)) ≡ false }
     {
@@ -376,7 +351,7 @@ impl Acceptor {
         if !may_come(allow, most, present.hosts(), host) {
             return Err(Some(address));
         }
-        let Some(bot) = Socket::new(poller, pool, stream, bot_key(place)) else {
+        let Some(bot) = Socket::new(poller, pool, stream, key) else {
             self.pause_after_refusal(poller.table.now());
             return Err(None);
         };
@@ -395,8 +370,6 @@ impl Acceptor {
 pub(crate) struct PendingConnection<'w, S: Drop> {
     /// The number of its session.
     number: u32,
-    /// Its place in the run.
-    place: usize,
     bot: Socket<'w, S>,
     server: Option<Socket<'w, S>>,
     /// The number of addresses tried.
@@ -416,9 +389,8 @@ impl<'w, S: Drop> Model for PendingConnection<'w, S> {
     ghost view = { λ a. record {
       number = a.number;
       bot = a.bot.stream;
-      bot_key = a.bot.key;
       server = option_map (λ socket. socket.stream) a.server;
-      row = option_map (λ socket. record { key = socket.key; known = socket.readiness }) a.server;
+      known = option_map (λ socket. socket.readiness) a.server;
       tried = a.tried;
       gives_up = a.gives_up;
       im_due = a.im_due;
@@ -426,6 +398,19 @@ impl<'w, S: Drop> Model for PendingConnection<'w, S> {
 
     // the connect was made for this bot
     ghost invariant = { λ a. IfSome a.server (λ socket. socket.made_for ≡ a.number) };
+}
+
+/// Returns how many connects are under way.
+pub(crate) fn pending_count<S: Drop>(arrivals: &[Option<PendingConnection<'_, S>>]) -> usize
+    ensures { result ≡ pending_in arrivals.now }
+{
+    let mut count = 0;
+    for arrival in arrivals {
+        if arrival.is_some() {
+            count += 1;
+        }
+    }
+    count
 }
 
 /// A bot with no server reached before the deadline: the number of its session, and its socket.
@@ -443,13 +428,12 @@ fn begun<N: Network>(
     key: usize,
     tried: &mut usize,
 ) -> Option<N::Connection>
-    ensures connects { IfSome result (λ begun. ConnectsTo N.transition servers.now begun.0 begun.1 poller.new.network) }
+    ensures connects { IfSome result (λ begun. ConnectsTo N.transition servers.now begun key poller.new.network) }
     ensures calls { (count : ℕ) × (tried.new ≡ tried.old + count)
         × ConnectsFrom N.transition servers.now tried.old count poller.old.network poller.new.network }
     ensures all { IfNone result (length servers.now ≤ tried.new) }
-    ensures unknown { IfSome result (λ begun. report_at poller.new.table begun.1 ≡ no_report) }
-    ensures clock { poller.new.table.reading ≡ poller.old.table.reading }
-    ensures rows { HandsRows poller.old.table [] poller.new.table (key_in (option_map (λ begun. begun.1) result)) }
+    ensures unknown { IfSome result (λ _. (report_at poller.new.table key).may_write ≡ false) }
+    ensures table { ChangesRows (λ row. row ≡ key) poller.old.table poller.new.table }
 {
     while let Some(address) = servers.get(*tried) {
         *tried += 1;
@@ -471,8 +455,8 @@ fn connecting<'w, S: Duplex + Drop>(
     pool: &'w Pool,
     number: u32,
 ) -> Option<Socket<'w, S>>
-    ensures fresh { IfSome result (λ socket. IsFresh socket.stream × (socket.made_for ≡ number)) }
-    ensures key { option_map (λ socket. socket.key) result ≡ option_map (λ begun. begun.1) begun }
+    ensures fresh { IfSome result (λ socket. IsFresh socket.stream × (socket.made_for ≡ number)
+        × (socket.readiness.may_write ≡ false)) }
     ensures none { result ≡ None → begun ≡ None }
 {
     match begun {
@@ -482,14 +466,15 @@ fn connecting<'w, S: Duplex + Drop>(
 }
 
 impl<'w, S: Duplex + Drop> PendingConnection<'w, S> {
-    /// Starts the connect of a newly accepted bot.
+    /// Starts the connect of a newly accepted bot, with this number and socket, which is followed under this key.
     ///
     /// `calls`, `all`: connects are made to the first addresses of the server, until one begins or no address is left, and
     /// no other call.
     pub(crate) fn new<N: Network<Connection = S>>(
         poller: &mut Poller<N>,
         servers: &[SocketAddr],
-        came: (u32, usize, Socket<'w, S>),
+        key: usize,
+        came: (u32, Socket<'w, S>),
         times: (Duration, Duration),
     ) -> PendingConnection<'w, S>
         ensures number { result.number ≡ came.entry.0 }
@@ -497,21 +482,19 @@ impl<'w, S: Duplex + Drop> PendingConnection<'w, S> {
         ensures server { IsFreshConnect result.server }
         ensures calls { ConnectsFrom N.transition servers.now 0 result.tried poller.old.network poller.new.network }
         ensures all { result.server ≡ None → length servers.now ≤ result.tried }
-        ensures rows { HandsRows poller.old.table (came.entry.1.key ∷ []) poller.new.table (arrival_keys result) }
+        ensures table { ChangesRows (λ row. row ≡ key) poller.old.table poller.new.table }
         ensures im_due { IsAfter poller.old.table.reading (as_nanos times.0) result.im_due }
         ensures gives_up { IsAfter poller.old.table.reading (as_nanos times.1) result.gives_up }
     {
-        let (number, place, bot) = came;
+        let (number, bot) = came;
         let (im_time, connect_time) = times;
         let gives_up = poller.table.after(connect_time);
         let im_due = poller.table.after(im_time);
         let mut tried = 0;
-        let key = server_key(place);
         let begun = begun(poller, servers, key, &mut tried);
         let server = connecting(begun, key, bot.pool, number);
         PendingConnection {
             number,
-            place,
             bot,
             server,
             tried,
@@ -520,31 +503,35 @@ impl<'w, S: Duplex + Drop> PendingConnection<'w, S> {
         }
     }
 
-    /// Returns the state of the connect to the present address. Asks the network if a poll reported something of it.
+    /// Returns the state of the connect to the present address, whose socket has the row with this key. Asks the network if a
+    /// poll reported something of it.
     ///
     /// `quiet`: without a report it is pending, and no call is made.
     ///
     /// `asked`: with one the result is the network's.
     ///
     /// `still`: if it is pending, the connect has no result until the next report.
-    fn progress<N: Network<Connection = S>>(&mut self, poller: &mut Poller<N>) -> ConnectStatus
-        ensures quiet { may_connect poller.old.table self.old.row ≡ false →
+    ///
+    /// `reported`: if it is connected, what was reported is known of its socket.
+    fn progress<N: Network<Connection = S>>(&mut self, poller: &mut Poller<N>, key: usize) -> ConnectStatus
+        ensures quiet { may_connect poller.old.table key self.old.known ≡ false →
             (result ≡ ConnectStatus.Pending) × (poller.new.network ≡ poller.old.network) }
-        ensures asked { may_connect poller.old.table self.old.row ≡ true → (server : Buffer S) →
+        ensures asked { may_connect poller.old.table key self.old.known ≡ true → (server : Buffer S) →
             self.old.server ≡ Some server →
             N.transition poller.old.network (AsksConnect server.stream result) poller.new.network }
-        ensures still { result ≡ ConnectStatus.Pending → may_connect poller.new.table self.new.row ≡ false }
+        ensures still { result ≡ ConnectStatus.Pending → may_connect poller.new.table key self.new.known ≡ false }
+        ensures reported { result ≡ ConnectStatus.Connected → IfSome self.new.known (λ known.
+            merged known (report_at poller.old.table key) ≡ known) }
         ensures calls { AsksAtMostOnce N.transition poller.old.network poller.new.network }
         ensures none { self.old.server ≡ None → result ≡ ConnectStatus.Failed }
-        ensures rest { self.new ≡ record self.old { row = self.new.row } }
-        ensures clock { poller.new.table.reading ≡ poller.old.table.reading }
-        ensures rows { KeepsRows poller.old.table poller.new.table }
-        ensures key { connect_key self.new.row ≡ connect_key self.old.row }
+        ensures rest { self.new ≡ record self.old { known = self.new.known } }
+        ensures table { ChangesRows (λ row. row ≡ key) poller.old.table poller.new.table }
     {
         let Some(server) = &mut self.server else {
             return ConnectStatus::Failed;
         };
-        server.take_report(&mut poller.table);
+        let report = poller.table.take_report(key);
+        server.note_report(report);
         if !server.readiness.may_write {
             return ConnectStatus::Pending;
         }
@@ -560,28 +547,26 @@ impl<'w, S: Duplex + Drop> PendingConnection<'w, S> {
         &mut self,
         poller: &mut Poller<N>,
         servers: &[SocketAddr],
+        key: usize,
     )
         ensures goes_on { StaysPending self.old self.new }
         ensures calls { (count : ℕ) × (self.new.tried ≡ self.old.tried + count)
             × ConnectsFrom N.transition servers.now self.old.tried count poller.old.network poller.new.network }
         ensures all { self.new.server ≡ None → length servers.now ≤ self.new.tried }
-        ensures clock { poller.new.table.reading ≡ poller.old.table.reading }
-        ensures rows { HandsRows poller.old.table (arrival_keys self.old) poller.new.table (arrival_keys self.new) }
+        ensures still { IsSome self.new.server → may_connect poller.new.table key self.new.known ≡ false }
+        ensures table { ChangesRows (λ row. row ≡ key) poller.old.table poller.new.table }
     {
         self.server = None;
-        let key = server_key(self.place);
         let begun = begun(poller, servers, key, &mut self.tried);
         self.server = connecting(begun, key, self.bot.pool, self.number);
     }
 
     /// Closes the connect once its deadline is past at the table's reading of the clock.
     fn drop_if_late(&mut self, table: &SocketTable)
-        ensures in_time { is_past table.old.reading self.old.gives_up ≡ false → self.new ≡ self.old }
-        ensures late { is_past table.old.reading self.old.gives_up ≡ true →
-            self.new ≡ record self.old { server = None; row = None } }
+        ensures in_time { is_past table.now.reading self.old.gives_up ≡ false → self.new ≡ self.old }
+        ensures late { is_past table.now.reading self.old.gives_up ≡ true →
+            self.new ≡ record self.old { server = None; known = None } }
         ensures goes_on { StaysPending self.old self.new }
-        ensures clock { table.new.reading ≡ table.old.reading }
-        ensures rows { HandsRows table.old (arrival_keys self.old) table.new (arrival_keys self.new) }
     {
         if table.is_over(self.gives_up) {
             self.server = None;
@@ -589,7 +574,9 @@ impl<'w, S: Duplex + Drop> PendingConnection<'w, S> {
     }
 
     /// Returns its deadline.
-    pub(crate) fn due(&self) -> Option<Instant> {
+    pub(crate) fn due(&self) -> Option<Instant>
+        ensures { result ≡ self.now.gives_up }
+    {
         self.gives_up
     }
 
@@ -603,26 +590,33 @@ impl<'w, S: Duplex + Drop> PendingConnection<'w, S> {
     /// `tries`: a failed connect is followed by connects to the next addresses, each once, and no other call is made.
     ///
     /// `all`: before its deadline it is given up only if no address is left.
+    ///
+    /// `still`: while it is under way it has no result until the next report.
+    ///
+    /// `reported`: once it is not, what was reported is known of a socket that is connected.
     pub(crate) fn advances<N: Network<Connection = S>>(
         &mut self,
         poller: &mut Poller<N>,
         servers: &[SocketAddr],
+        key: usize,
     ) -> bool
         ensures goes_on { StaysPending self.old self.new }
-        ensures reached { result ≡ false → IsSome self.new.server → self.new ≡ record self.old { row = self.new.row } }
+        ensures reached { result ≡ false → IsSome self.new.server → self.new ≡ record self.old { known = self.new.known } }
+        ensures reported { result ≡ false → IfSome self.new.known (λ known.
+            merged known (report_at poller.old.table key) ≡ known) }
+        ensures still { result ≡ true → may_connect poller.new.table key self.new.known ≡ false }
         ensures late { result ≡ true → is_past poller.old.table.reading self.old.gives_up ≡ false }
         ensures early { result ≡ false → is_past poller.old.table.reading self.old.gives_up ≡ false →
-            may_connect poller.old.table self.old.row ≡ true }
+            may_connect poller.old.table key self.old.known ≡ true }
         ensures tries { TriesOn N.transition servers.now self.old.tried self.new.tried poller.old.network
             poller.new.network }
         ensures all { is_past poller.old.table.reading self.old.gives_up ≡ false → self.new.server ≡ None →
             length servers.now ≤ self.new.tried }
-        ensures clock { poller.new.table.reading ≡ poller.old.table.reading }
-        ensures rows { HandsRows poller.old.table (arrival_keys self.old) poller.new.table (arrival_keys self.new) }
+        ensures table { ChangesRows (λ row. row ≡ key) poller.old.table poller.new.table }
     {
-        match self.progress(poller) {
+        match self.progress(poller, key) {
             ConnectStatus::Connected => return false,
-            ConnectStatus::Failed => self.try_next(poller, servers),
+            ConnectStatus::Failed => self.try_next(poller, servers, key),
             ConnectStatus::Pending => {}
         }
         self.drop_if_late(&poller.table);
@@ -642,21 +636,17 @@ impl<'w, S: Duplex + Drop> PendingConnection<'w, S> {
           number = ports.number;
           bot = ports.bot.stream;
           server = ports.server.stream;
-          bot_key = ports.bot.key;
-          server_key = ports.server.key;
         })) }
         ensures im_due { IfOk result (λ ports. ports.im_due ≡ self.entry.im_due) }
         ensures silent_from { IfOk result (λ ports. IsStallEnd now times.0 ports.bot.silent_from
             × IsStallEnd now times.0 ports.server.silent_from) }
         ensures begins { IfOk result (λ ports. BeginsAt now times (timers_of ports)) }
+        ensures known { IfOk result (λ ports. self.entry.known ≡ Some ports.server.readiness) }
         ensures unreached { IfErr result (λ left. (left.number ≡ self.entry.number)
-            × (left.bot.stream ≡ self.entry.bot) × (self.entry.server ≡ None) × (left.bot.key ≡ self.entry.bot_key)) }
-        ensures keys { MatchResult result (λ ports. arrival_keys self.entry ≡ ports.bot.key ∷ ports.server.key ∷ [])
-            (λ left. arrival_keys self.entry ≡ left.bot.key ∷ []) }
+            × (left.bot.stream ≡ self.entry.bot) × (self.entry.server ≡ None)) }
     {
         let PendingConnection {
             number,
-            place: _,
             bot,
             server,
             tried: _,
@@ -671,14 +661,10 @@ impl<'w, S: Duplex + Drop> PendingConnection<'w, S> {
 
     /// Gives up the connect, and returns the bot.
     pub(crate) fn give_up(self) -> Unreached<'w, S>
-        ensures given_up { (result.number ≡ self.entry.number) × (result.bot.stream ≡ self.entry.bot)
-            × (result.bot.key ≡ self.entry.bot_key) }
-        ensures rows { HandsRows table.old (arrival_keys self.entry) table.new (result.bot.key ∷ []) }
-        ensures clock { table.new.reading ≡ table.old.reading }
+        ensures { (result.number ≡ self.entry.number) × (result.bot.stream ≡ self.entry.bot) }
     {
         let PendingConnection {
             number,
-            place: _,
             bot,
             server: _,
             tried: _,

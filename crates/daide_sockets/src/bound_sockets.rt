@@ -1,9 +1,11 @@
 //! The resources of a run: its listener, the addresses of the server, and the table of its sockets.
 
-ghost use Rattle.std.specs.Prelude.{◌≡◌, ◌≢◌, ◌+◌, ◌*◌, ◌^◌, ◌<◌, IfErr, IfOk, IfSome, false, []};
+ghost use Rattle.std.specs.Prelude.{◌≡◌, ◌≢◌, IfErr, IfOk, IfSome, false, [], length};
 ghost use Rattle.daide_sockets.specs.Addresses.{AreAddressesOf, IsBindCause, IsLookUpError};
 ghost use Rattle.daide_sockets.specs.Lingering.{no_closing};
-ghost use Rattle.daide_sockets.specs.Rows.{AreRowsOf, control_keys, keys_of_run};
+ghost use Rattle.daide_sockets.specs.Pairing.{pending_in};
+ghost use Rattle.daide_sockets.specs.Rows.{AreRowsOf, closing_keys};
+ghost use Rattle.daide_sockets.specs.Table.{new_table};
 ghost use Rattle.daide_sockets.specs.Times.{IsSeconds, IsIdleTime};
 
 use crate::addresses::{AddressFault, listener_on, looked_up};
@@ -94,8 +96,8 @@ pub struct BoundSockets<'r, R: Clock + Net> {
     pub pool: Pool,
 }
 
-/// Looks up both addresses of the settings, and listens at the first one. The table has a row for each socket of the
-/// run. The system decides which listener it is, and the addresses of a name.
+/// Looks up both addresses of the settings, and listens at the first one. The table has the rows of each place, and those of
+/// the closing sockets. The system decides which listener it is, and the addresses of a name.
 ///
 /// Fails with `Name` if the system knows no address of a host. Then fails with `Listen` if no address can be bound, or
 /// if there is no descriptor for the network. Fails with `Memory` at a growth that was refused.
@@ -107,9 +109,7 @@ pub fn bind_sockets<'r, R: AllocGlobal + Clock + Net>(
     rt: &'r R,
     settings: &Settings,
 ) -> Result<BoundSockets<'r, R>, BindError>
-    ensures rows { IfOk result (λ ground. settings.now.max_sessions < 2 ^ 62 →
-        ground.table.max_rows ≡ 2 * settings.now.max_sessions + MOST_CLOSING + MOST_CONTROLS + 2) }
-    ensures free { IfOk result (λ ground. ground.table.rows ≡ []) }
+    ensures rows { IfOk result (λ ground. ground.table ≡ new_table settings.now.max_sessions MOST_CLOSING) }
     ensures servers { IfOk result (λ ground. AreAddressesOf settings.now.server ground.servers.items) }
     ensures cause { IfErr result (IsBindCause settings.now) }
 {
@@ -143,15 +143,17 @@ pub fn sockets_on<'w, N: Network, E: Write + Drop>(
     errors: E,
 ) -> Option<Sockets<'w, N, E>>
     ensures none_came { IfSome result (λ sockets. (sockets.acceptor.came ≡ 0) × (sockets.is_verbose ≡ false)) }
-    ensures none_held { IfSome result (λ sockets. (sockets.arrivals.items ≡ [])
+    ensures none_held { IfSome result (λ sockets. (pending_in sockets.arrivals.items ≡ 0)
         × (sockets.closings ≡ no_closing sockets.stall_time)) }
     ensures im_time { IfSome result (λ sockets. IsSeconds settings.now.im_seconds sockets.im_time) }
     ensures idle_time { IfSome result (λ sockets. IsIdleTime settings.now.idle_seconds sockets.idle_time) }
     ensures stall_time { IfSome result (λ sockets. IsIdleTime settings.now.stall_seconds sockets.stall_time
         × (sockets.stall_seconds ≡ settings.now.stall_seconds)) }
     ensures connect_time { IfSome result (λ sockets. IsSeconds CONNECT_SECONDS sockets.connect_time) }
-    ensures rows { ground.entry.2.rows ≡ [] → IfSome result (λ sockets. AreRowsOf sockets.poller.table
-        (keys_of_run sockets.acceptor (control_keys sockets.control) sockets.arrivals.items sockets.closings.streams)) }
+    ensures room { IfSome result (λ sockets. (length sockets.arrivals.items ≡ settings.now.max_sessions)
+        × (length sockets.poller.table.deadlines ≡ length ground.entry.2.deadlines)) }
+    ensures rows { AreRowsOf ground.entry.2 [] → IfSome result (λ sockets. AreRowsOf sockets.poller.table
+        (closing_keys sockets.closings.streams)) }
 {
     Sockets::new(
         alloc,

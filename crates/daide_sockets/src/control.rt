@@ -1,18 +1,18 @@
 //! The control socket of a run: its listener, and at most four connections.
 //!
-//! They are read and written when a round begins, each once, so no session waits for them. A wait watches them as it
-//! watches sessions.
+//! They are read and written at each poll, each once, so no session waits for them. The next poll watches them.
 
-ghost use Rattle.std.specs.Prelude.{◌≡◌, ◌||◌, List, Option, [], ◌∷◌, false, true, IfSome, None, Some, option_map};
-ghost use Rattle.daide_sockets.specs.Accepting.{is_accept_due, Pauses};
+ghost use Rattle.std.specs.Prelude.{◌≡◌, ◌||◌, ◌<◌, [], ◌∷◌, false, true, IfSome, None, Some};
+ghost use Rattle.daide_sockets.specs.Accepting.{Pauses};
 ghost use Rattle.daide_sockets.specs.Snapshot.{seconds_between, or_zero};
 ghost use Rattle.daide_sockets.specs.Control.{gathers_at, stops_at, stops_now_at};
-ghost use Rattle.daide_sockets.specs.ControlSlots.{places, Each, at_some, PlaceAdvances, PlaceShows};
-ghost use Rattle.daide_sockets.specs.ControlSlots.{at_place, has_free, with_one, watching_place, watching_places, watching_listener};
+ghost use Rattle.daide_sockets.specs.ControlSlots.{places, Each, at_some, IsControlRow, PlaceAdvances, PlacesAdvance, PlaceShows};
+ghost use Rattle.daide_sockets.specs.ControlSlots.{at_place, has_free, is_control_due, with_one, watching_place, watching_places, watching_listener};
 ghost use Rattle.daide_sockets.specs.ControlSlots.{MakesControlAccept, AcceptsOne, watching_control, BeginsRound};
 ghost use Rattle.daide_sockets.specs.ControlSlots.{is_listener_due};
-ghost use Rattle.daide_sockets.specs.Rows.{HandsRows, control_keys, control_listener_keys, key_in, place_keys};
-ghost use Rattle.daide_sockets.specs.Table.{Table};
+ghost use Rattle.daide_sockets.specs.KeptRows.{ChangesRows};
+ghost use Rattle.daide_sockets.specs.Table.{Table, report_at};
+ghost use Rattle.daide_sockets.specs.Wakeups.{GoesUnpolled};
 
 use crate::admission::ACCEPT_PAUSE;
 use crate::control_connection::ControlConnection;
@@ -52,26 +52,26 @@ struct Slots<S: Duplex + Drop> {
     fourth: Option<ControlConnection<S>>,
 }
 
-/// Advances the connection of a place, and frees the place and its row if it is closed.
+/// Advances the connection of a place, which has the row with this key, and frees the place if it is closed.
 fn advance_place<S: Duplex + Drop>(
     place: &mut Option<ControlConnection<S>>,
+    key: usize,
     table: &mut SocketTable,
     alloc: Global,
     run: &RunStatus,
 )
-    ensures advances { PlaceAdvances S.to_give S.taken S.calls run.now table.old.reading place.old place.new }
-    ensures rows { HandsRows table.old (place_keys (place.old ∷ [])) table.new (place_keys (place.new ∷ [])) }
-    ensures clock { table.new.reading ≡ table.old.reading }
+    ensures advances { PlaceAdvances S.to_give S.taken S.calls run.now table.old.reading (report_at table.old key) place.old
+        place.new }
+    ensures table { ChangesRows (λ row. row ≡ key) table.old table.new }
 {
     let Some(connection) = place else {
         return;
     };
-    let report = table.take_report(connection.key());
+    let report = table.take_report(key);
     connection.note_report(report);
     if connection.advance(alloc, run, table.now()) {
         return;
     }
-    table.release(connection.key());
     *place = None;
 }
 
@@ -84,7 +84,7 @@ fn show_at<S: Duplex + Drop>(place: &mut Option<ControlConnection<S>>, row: &Ses
     }
 }
 
-/// Has the next wait watch the connection of a place.
+/// Has the next poll watch the connection of a place.
 fn watch_place<S: Duplex + Drop>(place: &Option<ControlConnection<S>>, table: &mut SocketTable)
     ensures { table.new ≡ watching_place table.old place.now }
 {
@@ -129,15 +129,17 @@ impl<S: Duplex + Drop> Slots<S> {
 
     /// Advances each connection.
     fn advance(&mut self, table: &mut SocketTable, alloc: Global, run: &RunStatus)
-        ensures advances { Each (PlaceAdvances S.to_give S.taken S.calls run.now table.old.reading) (places self.old)
-            (places self.new) }
-        ensures rows { HandsRows table.old (place_keys (places self.old)) table.new (place_keys (places self.new)) }
-        ensures clock { table.new.reading ≡ table.old.reading }
+        ensures advances { PlacesAdvance S.to_give S.taken S.calls run.now table.old (places self.old) (places self.new) }
+        ensures table { ChangesRows (IsControlRow table.old) table.old table.new }
     {
-        advance_place(&mut self.first, table, alloc, run);
-        advance_place(&mut self.second, table, alloc, run);
-        advance_place(&mut self.third, table, alloc, run);
-        advance_place(&mut self.fourth, table, alloc, run);
+        let first = table.control_connection_key(0);
+        let second = table.control_connection_key(1);
+        let third = table.control_connection_key(2);
+        let fourth = table.control_connection_key(3);
+        advance_place(&mut self.first, first, table, alloc, run);
+        advance_place(&mut self.second, second, table, alloc, run);
+        advance_place(&mut self.third, third, table, alloc, run);
+        advance_place(&mut self.fourth, fourth, table, alloc, run);
     }
 
     /// Shows the row of a session to each connection that gathers a status.
@@ -150,7 +152,7 @@ impl<S: Duplex + Drop> Slots<S> {
         show_at(&mut self.fourth, row);
     }
 
-    /// Has the next wait watch each connection.
+    /// Has the next poll watch each connection.
     fn watch(&self, table: &mut SocketTable)
         ensures { table.new ≡ watching_places table.old (places self.now) }
     {
@@ -206,7 +208,9 @@ impl<S: Duplex + Drop> Slots<S> {
     }
 
     /// Returns the number of the first free place, from 0; 4 if there is none.
-    fn first_free(&self) -> usize {
+    fn first_free(&self) -> usize
+        ensures { has_free (places self.now) ≡ true → result < MOST_CONTROLS }
+    {
         if self.first.is_none() {
             0
         } else if self.second.is_none() {
@@ -239,8 +243,6 @@ impl<S: Duplex + Drop> Slots<S> {
 /// The listener of the control socket, with a pause after a failed accept.
 #[derive(Drop)]
 struct ControlListener {
-    /// The key of its row.
-    key: usize,
     /// What is known of it without a system call.
     readiness: Readiness,
     /// The end of the pause after a failed accept; `None` if there is no pause.
@@ -250,22 +252,20 @@ struct ControlListener {
 impl ControlListener {
     /// Returns whether an accept is made now: the listener is ready by the table, and no pause is under way.
     fn is_due(&self, table: &SocketTable) -> bool
-        ensures { result ≡ is_accept_due table.now self.now.key self.now.readiness self.now.resumes_at }
+        ensures { result ≡ is_control_due table.now self.now }
     {
         match self.resumes_at {
-            None => self.readiness.may_read || table.report(self.key).may_read,
+            None => self.readiness.may_read || table.report(table.control_key()).may_read,
             Some(_) => is_past(table.now(), self.resumes_at),
         }
     }
 
-    /// Returns true only if no accept is due, and a wait has nothing to watch for one.
+    /// Returns true only if no accept is due, and a poll has nothing to watch for one.
     fn rests(&self, table: &SocketTable) -> bool
-        ensures not_due { result ≡ true →
-            is_accept_due table.now self.now.key self.now.readiness self.now.resumes_at ≡ false }
-        ensures unready { result ≡ true → self.now.readiness.may_read ≡ false }
+        ensures not_due { result ≡ true → is_control_due table.now self.now ≡ false }
         ensures no_pause { result ≡ true → self.now.resumes_at ≡ None }
     {
-        self.resumes_at.is_none() && !self.readiness.may_read && !table.report(self.key).may_read
+        self.resumes_at.is_none() && !self.is_due(table)
     }
 
     /// Records an accept that failed for this reason: the listener counts as not ready, and a pause begins unless the
@@ -273,7 +273,6 @@ impl ControlListener {
     fn pause(&mut self, now: Option<Instant>, why: ErrorKind)
         ensures pauses { Pauses now why self.new.resumes_at }
         ensures ready { self.new.readiness.may_read ≡ false }
-        ensures key { self.new.key ≡ self.old.key }
     {
         self.readiness.may_read = false;
         self.resumes_at = match why {
@@ -285,19 +284,18 @@ impl ControlListener {
     /// Accepts a connection, has it followed under this key, and returns it. Returns `None` if there is none, or if the
     /// system refuses. Makes no call if the listener is not ready, or during the pause after a refusal.
     fn accept<N: Network>(&mut self, poller: &mut Poller<N>, key: usize) -> Option<N::Connection>
-        ensures made { is_accept_due poller.old.table self.old.key self.old.readiness self.old.resumes_at ≡ true →
-            MakesControlAccept N.transition poller.old.network }
-        ensures not_made { is_accept_due poller.old.table self.old.key self.old.readiness self.old.resumes_at ≡ false →
+        requires { IsControlRow poller.old.table key }
+        ensures made { is_control_due poller.old.table self.old ≡ true → MakesControlAccept N.transition poller.old.network }
+        ensures not_made { is_control_due poller.old.table self.old ≡ false →
             (result ≡ None) × (self.new ≡ self.old) × (poller.new ≡ poller.old) }
-        ensures clock { poller.new.table.reading ≡ poller.old.table.reading }
-        ensures rows { HandsRows poller.old.table [] poller.new.table
-            (key_in (option_map (λ accepted. accepted.1) result)) }
-        ensures key { self.new.key ≡ self.old.key }
+        ensures calls { GoesUnpolled N.transition poller.old.network poller.new.network }
+        ensures table { ChangesRows (IsControlRow poller.old.table) poller.old.table poller.new.table }
     {
         if !self.is_due(&poller.table) {
             return None;
         }
-        let report = poller.table.take_report(self.key);
+        let own = poller.table.control_key();
+        let report = poller.table.take_report(own);
         self.readiness = merged(self.readiness, report);
         self.resumes_at = None;
         let mut connection = match poller.network.accept_control() {
@@ -315,13 +313,13 @@ impl ControlListener {
         Some(connection)
     }
 
-    /// Has the next wait watch the listener, if a place is free.
+    /// Has the next poll watch the listener, if a place is free.
     fn watch(&self, table: &mut SocketTable, has_room: bool)
         ensures { table.new ≡ watching_listener table.old has_room (Some self.now) }
     {
         if has_room {
-            let may_accept = self.readiness.may_read || table.report(self.key).may_read;
-            table.watch(may_accept && self.resumes_at.is_none(), self.resumes_at);
+            let may_accept = self.is_due(table) && self.resumes_at.is_none();
+            table.watch(may_accept, self.resumes_at);
         }
     }
 }
@@ -343,16 +341,13 @@ pub struct Control<S: Duplex + Drop> {
     started_at: Option<Instant>,
 }
 
-/// Has the listener of the control socket followed, if the network has one. Returns `None` if the table has no free row,
-/// or the system refuses.
+/// Has the listener of the control socket followed, if the network has one. Returns `None` if the system refuses.
 fn listener_of<N: Network>(poller: &mut Poller<N>) -> Option<Option<ControlListener>>
-    ensures rows { IfSome result (λ listener.
-        HandsRows poller.old.table [] poller.new.table (control_listener_keys listener)) }
+    ensures { poller.new.table ≡ poller.old.table }
 {
     let key = poller.table.control_key();
     match poller.network.listen_for_control(key) {
         Some(true) => Some(Some(ControlListener {
-            key,
             readiness: Readiness::UNKNOWN,
             resumes_at: None,
         })),
@@ -370,8 +365,7 @@ impl<S: Duplex + Drop> Control<S> {
     ) -> Option<Control<S>>
         ensures no_orders { IfSome result (λ control. (control.stops_accepting ≡ false) × (control.stops_now ≡ false)) }
         ensures free { IfSome result (λ control. places control.slots ≡ None ∷ None ∷ None ∷ None ∷ []) }
-        ensures rows { IfSome result (λ control.
-            HandsRows poller.old.table [] poller.new.table (control_keys control)) }
+        ensures table { poller.new.table ≡ poller.old.table }
     {
         let listener = listener_of(poller)?;
         Some(Control {
@@ -389,8 +383,8 @@ impl<S: Duplex + Drop> Control<S> {
         ensures accepts { AcceptsOne poller.old.table.reading (places self.old.slots) (places self.new.slots) }
         ensures same { (self.new.stops_accepting ≡ self.old.stops_accepting) × (self.new.stops_now ≡ self.old.stops_now)
             × (self.new.started_at ≡ self.old.started_at) }
-        ensures rows { HandsRows poller.old.table (control_keys self.old) poller.new.table (control_keys self.new) }
-        ensures clock { poller.new.table.reading ≡ poller.old.table.reading }
+        ensures calls { GoesUnpolled N.transition poller.old.network poller.new.network }
+        ensures table { ChangesRows (IsControlRow poller.old.table) poller.old.table poller.new.table }
     {
         let Some(listener) = &mut self.listener else {
             return;
@@ -403,11 +397,10 @@ impl<S: Duplex + Drop> Control<S> {
             return;
         };
         let closes_at = poller.table.after(Duration::from_secs(CONTROL_SECONDS));
-        self.slots
-            .put(ControlConnection::new(stream, key, closes_at));
+        self.slots.put(ControlConnection::new(stream, closes_at));
     }
 
-    /// Has the next wait watch each connection, and the listener if a place is free.
+    /// Has the next poll watch each connection, and the listener if a place is free.
     pub(crate) fn watch(&self, table: &mut SocketTable)
         ensures { table.new ≡ watching_control table.old self.now }
     {
@@ -418,11 +411,11 @@ impl<S: Duplex + Drop> Control<S> {
     }
 
     /// Returns true only if a round has nothing to do for the control socket: there is no connection, no accept is due,
-    /// and the next wait has nothing to watch for it.
+    /// and the next poll has nothing to watch for it.
     pub(crate) fn is_at_rest(&self, table: &SocketTable) -> bool
         ensures free { result ≡ true → places self.now.slots ≡ None ∷ None ∷ None ∷ None ∷ [] }
         ensures not_due { result ≡ true → is_listener_due table.now self.now.listener ≡ false }
-        ensures watched { result ≡ true → (any : Table) → any ≡ watching_control any self.now }
+        ensures watched { result ≡ true → table.now ≡ watching_control table.now self.now }
     {
         let rests = match &self.listener {
             Some(listener) => listener.rests(table),
@@ -434,8 +427,8 @@ impl<S: Duplex + Drop> Control<S> {
     /// Returns the orders of a round in which there is no connection, and none is accepted. They need no status of the run.
     pub(crate) fn orders_at_rest(&self) -> Orders
         requires { places self.now.slots ≡ None ∷ None ∷ None ∷ None ∷ [] }
-        ensures control { (run : RunStatus) (reading : Option Instant) →
-            BeginsRound S.to_give S.taken S.calls run reading self.now result self.now }
+        ensures control { (run : RunStatus) (table : Table) →
+            BeginsRound S.to_give S.taken S.calls run table self.now result self.now }
         ensures stops { result.stops_accepting ≡ self.now.stops_accepting }
     {
         Orders {
@@ -444,7 +437,7 @@ impl<S: Duplex + Drop> Control<S> {
         }
     }
 
-    /// Begins a round at the table's reading of the clock, with the status of the run, and returns the operator's orders.
+    /// Begins a round by the table, with the status of the run, and returns the operator's orders.
     ///
     /// `control`: each connection is read or written once, and then at most one is accepted, to a free place. A stop is
     /// ordered from the round on in which a connection requests it, and stays so. Sessions are shown if a connection
@@ -454,11 +447,11 @@ impl<S: Duplex + Drop> Control<S> {
         poller: &mut Poller<N>,
         run: &RunStatus,
     ) -> Orders
-        ensures control { BeginsRound S.to_give S.taken S.calls run.now poller.old.table.reading self.old result self.new }
-        ensures clock { poller.new.table.reading ≡ poller.old.table.reading }
+        ensures control { BeginsRound S.to_give S.taken S.calls run.now poller.old.table self.old result self.new }
+        ensures calls { GoesUnpolled N.transition poller.old.network poller.new.network }
         ensures kept { self.old.stops_accepting ≡ true → self.new.stops_accepting ≡ true }
         ensures now_kept { self.old.stops_now ≡ true → self.new.stops_now ≡ true }
-        ensures rows { HandsRows poller.old.table (control_keys self.old) poller.new.table (control_keys self.new) }
+        ensures table { ChangesRows (IsControlRow poller.old.table) poller.old.table poller.new.table }
     {
         self.slots.advance(&mut poller.table, self.alloc, run);
         self.accept(poller);
@@ -475,7 +468,6 @@ impl<S: Duplex + Drop> Control<S> {
     pub(crate) fn show(&mut self, row: &SessionRow)
         ensures shows { Each (PlaceShows row.now) (places self.old.slots) (places self.new.slots) }
         ensures same { self.new ≡ record self.old { slots = self.new.slots } }
-        ensures row { control_keys self.new ≡ control_keys self.old }
     {
         self.slots.show(row);
     }

@@ -35,8 +35,6 @@ pub(crate) enum Stage {
 #[derive(Drop)]
 pub(crate) struct ControlConnection<S: Duplex + Drop> {
     stream: S,
-    /// The key of its row.
-    key: usize,
     /// What is known of it without a system call.
     readiness: Readiness,
     /// The moment at which it is closed, unless it requested a stop; `None` for never.
@@ -50,16 +48,14 @@ pub(crate) struct ControlConnection<S: Duplex + Drop> {
 }
 
 impl<S: Duplex + Drop> ControlConnection<S> {
-    /// Begins with a connection that has this row. Nothing is known of its readiness.
-    pub(crate) fn new(stream: S, key: usize, closes_at: Option<Instant>) -> ControlConnection<S>
+    /// Begins with a connection. Nothing is known of its readiness.
+    pub(crate) fn new(stream: S, closes_at: Option<Instant>) -> ControlConnection<S>
         ensures reads { result.stage ≡ Stage.Reads }
         ensures empty { result.line.items ≡ [] }
         ensures closes_at { result.closes_at ≡ closes_at }
-        ensures key { result.key ≡ key }
     {
         ControlConnection {
             stream,
-            key,
             readiness: Readiness::UNKNOWN,
             closes_at,
             line: ArrayVec::new(),
@@ -206,13 +202,6 @@ impl<S: Duplex + Drop> ControlConnection<S> {
         if self.gathers() {
             add(&mut self.status, row);
         }
-    }
-
-    /// Returns the key of its row.
-    pub(crate) fn key(&self) -> usize
-        ensures { result ≡ self.now.key }
-    {
-        self.key
     }
 
     /// Returns whether something may be done at once.

@@ -6,7 +6,6 @@ ghost use Rattle.daide_sockets.specs.ClosingTime.{ClosingSocketsLeave};
 ghost use Rattle.daide_sockets.specs.ControlInTime.{ControlWaitsAreInTime};
 ghost use Rattle.daide_sockets.specs.InTime.{WaitsAreInTime};
 ghost use Rattle.daide_sockets.specs.PairedOnce.{SessionsComeOnce};
-ghost use Rattle.daide_sockets.specs.RowsOfRun.{NoRowLeaks};
 
 use daide_io::duplex::Duplex;
 use daide_io::network::Network;
@@ -18,23 +17,22 @@ pub fn sessions_come_once<P: Ports, S: Duplex + Drop>()
     ensures { SessionsComeOnce P S.to_give S.taken S.calls }
 {}
 
-/// A wait lasts at most until the deadline of each session that it watches, and takes no time if one of them has work. So
-/// while a turn left bytes that may be written, or a read that was interrupted, no wait blocks.
+/// A poll that may block lasts at most until the deadline of each of those that it watches, and takes no time if one of them
+/// has work. It ends by the bound of the deadlines of all places, too.
 pub fn waits_are_in_time()
     ensures { WaitsAreInTime }
 {}
 
-/// A wait lasts at most until the deadline of each control connection, and takes no time while one of them may be read or
+/// A poll lasts at most until the deadline of each control connection, and takes no time while one of them may be read or
 /// written. The same holds of the listener of the control socket while a place is free.
 pub fn control_waits_are_in_time<S: Duplex + Drop>()
     ensures { ControlWaitsAreInTime S }
 {}
 
-/// A wait leaves out no socket that is not a session's. Each wait of a run watches the listener, each connect
-/// and each closing socket (`Schedules`, `others_watched`). It takes no time if an accept is awaited and due, if a poll
-/// reported something of a connect, or if a closing socket may do something at once: it has buffered bytes and is
-/// writable, or its writing is over and it is readable. It ends by the end of the pause of accepts, by the deadline of each
-/// connect, and by that of each closing socket: of its stall timeout, or of its release.
+/// A poll leaves out no socket that is not of a place. Each poll of a run watches the listener and each closing socket
+/// (`Schedules`, `others_watched`). If it may block, it takes no time if an accept is awaited and due, or if a closing socket may
+/// do something at once: it has buffered bytes and is writable, or its writing is over and it is readable. It ends by the end of
+/// the pause of accepts, and by the deadline of each closing socket: of its stall timeout, or of its release.
 pub fn waits_are_in_time_beside<S: Duplex + Drop>()
     ensures { WaitsAreInTimeBeside S }
 {}
@@ -43,16 +41,14 @@ pub fn waits_are_in_time_beside<S: Duplex + Drop>()
 /// most 256 sockets close: of each bot that was given up its socket, and of each session that was retired its two. A socket
 /// that is none of these any more was closed. So beside the listener a run holds two sockets for each bot that waits, two
 /// for each session, and those that close.
-///
-/// `each_bot_has_room` joins this with the loop's counts, against the rows of the table.
 pub fn sockets_are_accounted<P: Ports, S: Duplex + Drop>()
     ensures { SocketsAreAccounted P S.to_give S.taken S.calls }
 {}
 
 /// No socket closes for ever. Take a run over sockets with a stall timeout. The bound of a socket that closes is the stall
 /// timeout and a second after the reading of the clock at which it began. It is advanced at no reading at or past its bound:
-/// there it leaves, whatever its peer does, and whether or not the clock went on (`IsWithinBound`). Each wait ends by its
-/// bound at the latest (`waits_are_in_time_beside`), since its deadline is not after it, and reads the clock (`RestsOnce`).
+/// there it leaves, whatever its peer does, and whether or not the clock went on (`IsWithinBound`). Each poll ends by its
+/// bound at the latest (`waits_are_in_time_beside`), since its deadline is not after it, and reads the clock (`PollsOnce`).
 ///
 /// The readings are those that the table of the run has at its calls, as the sockets' own `transition` says
 /// (`ClosesByClock`).
@@ -65,17 +61,4 @@ pub fn sockets_are_accounted<P: Ports, S: Duplex + Drop>()
 /// more than 256 (`sockets_are_accounted`).
 pub fn closing_sockets_leave<P: Ports, S: Duplex + Drop, N: Network>()
     ensures { ClosingSocketsLeave S.to_give S.taken S.calls N P }
-{}
-
-/// No row leaks, and no two sockets share one. At any moment between two calls of a run over sockets, the taken rows of the
-/// table are exactly those of its sockets, one for each (`HoldsItsRows`). The listener has one until it is closed. Each
-/// session has two. Each bot that waits for its connect has one, and that connect has another. Each closing socket has one,
-/// and so have the control socket and each of its connections. So the taken rows are at most two for each session and each
-/// bot that waits, one for each closing socket, five for control, and one for the listener.
-///
-/// A run of sockets begins so (`Sockets::new`: `rows`). Each call says which rows change hands, as the sockets' own
-/// `transition` says (`HandsAlong`). The sessions are the ports that the run returned and did not get back (`SessionsGoOn`).
-/// That the loop gives back what it got is `each_row_is_held`.
-pub fn no_row_leaks<P: Ports, S: Duplex + Drop, N: Network>()
-    ensures { NoRowLeaks N P S }
 {}

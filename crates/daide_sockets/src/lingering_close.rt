@@ -8,18 +8,18 @@ ghost use Rattle.std.specs.Prelude.{◌≡◌, ◌⊎◌, ℕ, ◌+◌, ◌<◌,
 ghost use Rattle.std.specs.Prelude.{IfOk};
 ghost use Rattle.daide_io.specs.declared.ports.Pull.{Pull};
 ghost use Rattle.daide_io.specs.Ports.{AppendsTo};
-ghost use Rattle.daide_buffered_io.specs.Buffers.{Passes, ReadsNothing, WritesNothing};
-ghost use Rattle.daide_io.specs.Streams.{StreamCall, WritingEnded};
+ghost use Rattle.daide_io.specs.Streams.{IsSameStream, StreamCall, WritingEnded};
+ghost use Rattle.daide_buffered_io.specs.Buffers.{Passes, ReadsNothing, WritesNothing, with_stream};
+ghost use Rattle.daide_sockets.specs.Accepting.{FollowsAtMostOnce};
 ghost use Rattle.daide_sockets.specs.Beside.{may_close_on, closing_due, stage_due, closings_watched};
-ghost use Rattle.daide_sockets.specs.Finishing.{FinishesAll};
+ghost use Rattle.daide_sockets.specs.Finishing.{FinishesAll, WaitsOnce};
 ghost use Rattle.daide_sockets.specs.InTime.{watching_all};
 ghost use Rattle.daide_sockets.specs.Lingering.{ClosingStream, ClosingList, IsClosingBound, begins_closing, no_closing, TriesWriting, WritesOut};
 ghost use Rattle.daide_sockets.specs.Lingering.{Discards, is_released, LingersOn, LeavesNow, with_report, LooksAtOne, LooksAlong};
 ghost use Rattle.daide_sockets.specs.Lingering.{in_pass, LooksAround, GoOnFor};
-ghost use Rattle.daide_sockets.specs.Rows.{HandsRows, KeepsRows, closing_keys, kept_key};
-ghost use Rattle.daide_sockets.specs.Table.{report_at, watching};
-ghost use Rattle.daide_sockets.specs.Wakeups.{RestsOnce};
 ghost use Rattle.daide_sockets.specs.Pairing.{ClosesAt, ClosesBothAt, with_room};
+ghost use Rattle.daide_sockets.specs.Rows.{AreRowsOf, KeepsClosingRows, closing_keys};
+ghost use Rattle.daide_sockets.specs.Table.{IsFull, TakesRow, freed, report_at, watching, without_report, without_reports};
 
 use crate::poller::Poller;
 use crate::ports::SocketPorts;
@@ -54,6 +54,25 @@ fn closing_bound(now: Option<Instant>, stall_time: Option<Duration>) -> Option<I
         None => None,
         Some(time) => after(after(now, time), Duration::from_secs(SECONDS)),
     }
+}
+
+/// Has a socket followed under a row of closing sockets, of which there is one for each.
+fn moved<'w, S: Duplex + Drop, N: Network<Connection = S>>(
+    poller: &mut Poller<N>,
+    socket: Socket<'w, S>,
+) -> Socket<'w, S>
+    ensures stream { result.stream ≡ with_stream socket.entry.stream result.stream.stream }
+    ensures same { IsSameStream S.to_give S.taken S.calls socket.entry.stream.stream result.stream.stream }
+    ensures calls { FollowsAtMostOnce N.transition socket.entry.stream.stream poller.old.network poller.new.network }
+    ensures row { TakesRow poller.old.table result.key poller.new.table
+        ⊎ (IsFull poller.old.table × (poller.new.table ≡ poller.old.table)) }
+{
+    let mut socket = socket;
+    let Some(key) = poller.table.take_closing_row() else {
+        return socket;
+    };
+    socket.move_to(poller, key);
+    socket
 }
 
 /// A closing socket. Its writing is over once no buffered byte may still be written.
@@ -211,8 +230,7 @@ impl<'w, S: Duplex + Drop> LingeringClose<'w, S> {
     /// Takes the report of its row.
     fn take_report(&mut self, table: &mut SocketTable)
         ensures taken { self.new ≡ with_report (report_at table.old self.old.key) self.old }
-        ensures clock { table.new.reading ≡ table.old.reading }
-        ensures rows { KeepsRows table.old table.new }
+        ensures table { table.new ≡ without_report table.old self.old.key }
     {
         self.socket.take_report(table);
     }
@@ -223,16 +241,16 @@ impl<'w, S: Duplex + Drop> LingeringClose<'w, S> {
             (with_report (report_at table.old self.old.key) self.old) self.new }
         ensures leaves { result ≡ false → LeavesNow S.to_give S.taken S.calls now
             (with_report (report_at table.old self.old.key) self.old) }
-        ensures clock { table.new.reading ≡ table.old.reading }
-        ensures rows { HandsRows table.old (self.old.key ∷ []) table.new (kept_key result self.old.key) }
+        ensures stays { result ≡ true → table.new ≡ without_report table.old self.old.key }
+        ensures frees { result ≡ false → table.new ≡ freed (without_report table.old self.old.key) self.old.key }
         ensures key { self.new.key ≡ self.old.key }
     {
         self.take_report(table);
-        let stays = self.lingers(now);
-        if !stays {
-            table.release(self.socket.key);
+        if self.lingers(now) {
+            return true;
         }
-        stays
+        table.release(self.socket.key);
+        false
     }
 
     /// Returns whether a step may do something at once.
@@ -316,7 +334,7 @@ impl<'w, S: Duplex + Drop> ClosingSockets<'w, S> {
         requires { 0 < length self.old }
         ensures oldest { self.new ≡ remove self.old 0 }
         ensures clock { table.new.reading ≡ table.old.reading }
-        ensures rows { HandsRows table.old (closing_keys self.old) table.new (closing_keys self.new) }
+        ensures rows { KeepsClosingRows table.old (closing_keys self.old) table.new (closing_keys self.new) }
     {
         let oldest = self.sockets.remove(0);
         table.release(oldest.socket.key);
@@ -335,7 +353,7 @@ impl<'w, S: Duplex + Drop> ClosingSockets<'w, S> {
         requires { at < length self.old }
         ensures looks { LooksAtOne S.to_give S.taken S.calls now at self.old result self.new }
         ensures clock { table.new.reading ≡ table.old.reading }
-        ensures rows { HandsRows table.old (closing_keys self.old) table.new (closing_keys self.new) }
+        ensures rows { KeepsClosingRows table.old (closing_keys self.old) table.new (closing_keys self.new) }
     {
         let closing = &mut self.sockets[at];
         if closing.goes_on(table, now) {
@@ -357,7 +375,7 @@ impl<'w, S: Duplex + Drop> ClosingSockets<'w, S> {
         requires there { to ≤ length self.old }
         ensures looks { LooksAlong S.to_give S.taken S.calls now from to self.old result self.new }
         ensures clock { table.new.reading ≡ table.old.reading }
-        ensures rows { HandsRows table.old (closing_keys self.old) table.new (closing_keys self.new) }
+        ensures rows { KeepsClosingRows table.old (closing_keys self.old) table.new (closing_keys self.new) }
     {
         let mut at = from;
         for _place in from..to {
@@ -423,7 +441,7 @@ impl<'w, S: Duplex + Drop> Closings<'w, S> {
         ensures last_ones { self.new ≡ with_room self.old }
         ensures room { length self.new.streams < MOST_CLOSING }
         ensures clock { table.new.reading ≡ table.old.reading }
-        ensures rows { HandsRows table.old (closing_keys self.old.streams) table.new (closing_keys self.new.streams) }
+        ensures rows { KeepsClosingRows table.old (closing_keys self.old.streams) table.new (closing_keys self.new.streams) }
     {
         if self.sockets.len() < MOST_CLOSING {
             return;
@@ -433,47 +451,50 @@ impl<'w, S: Duplex + Drop> Closings<'w, S> {
         self.pass_end = self.pass_end.saturating_sub(1);
     }
 
-    /// Begins to close a socket, which leaves the row of its place for one of its own. If there are `MOST_CLOSING` already,
-    /// the oldest is closed.
+    /// Begins to close a socket, which took the report of the row of its place, and has a row of its own from now on. If there
+    /// are `MOST_CLOSING` already, the oldest is closed.
+    ///
+    /// `rows`: so each closing socket has a row of its own, and the row of a place is free for its next socket.
     pub fn begin<N: Network<Connection = S>>(
         &mut self,
         poller: &mut Poller<N>,
         socket: Socket<'w, S>,
     )
-        ensures closes { ClosesAt S.to_give S.taken S.calls table.old.reading self.old socket.entry.key socket.entry.stream
-            self.new }
-        ensures clock { table.new.reading ≡ table.old.reading }
-        ensures rows { HandsRows table.old (socket.entry.key ∷ closing_keys self.old.streams) table.new
+        ensures closes { ClosesAt S.to_give S.taken S.calls poller.old.table.reading self.old socket.entry.stream self.new }
+        ensures calls { FollowsAtMostOnce N.transition socket.entry.stream.stream poller.old.network poller.new.network }
+        ensures clock { poller.new.table.reading ≡ poller.old.table.reading }
+        ensures rows { KeepsClosingRows poller.old.table (closing_keys self.old.streams) poller.new.table
             (closing_keys self.new.streams) }
     {
         let now = poller.table.now();
         self.make_room(&mut poller.table);
-        let mut socket = socket;
-        // There is a row for each closing socket.
-        if let Some(key) = poller.table.take_closing_row() {
-            socket.move_to(poller, key);
-        }
+        let socket = moved(poller, socket);
         let mut closing = LingeringClose::new(socket, self.stall_time, now);
         closing.end_writing(now);
         self.sockets.push(closing);
     }
 
-    /// Begins to close both sockets of a session.
+    /// Begins to close both sockets of a session, which take the reports of the rows of its place.
     pub fn begin_both<N: Network<Connection = S>>(
         &mut self,
         poller: &mut Poller<N>,
+        place: usize,
         ports: SocketPorts<'w, S>,
     )
-        ensures closes { ClosesBothAt S.to_give S.taken S.calls table.old.reading self.old (record {
+        ensures closes { ClosesBothAt S.to_give S.taken S.calls poller.old.table.reading self.old (record {
           number = ports.entry.number;
           bot = ports.entry.bot.stream;
           server = ports.entry.server.stream;
-          bot_key = ports.entry.bot.key;
-          server_key = ports.entry.server.key;
         }) self.new }
-        ensures rows { HandsRows table.old (ports.entry.bot.key ∷ ports.entry.server.key ∷ closing_keys self.old.streams)
-            table.new (closing_keys self.new.streams) }
+        ensures calls { (mid : N)
+            × FollowsAtMostOnce N.transition ports.entry.bot.stream.stream poller.old.network mid
+            × FollowsAtMostOnce N.transition ports.entry.server.stream.stream mid poller.new.network }
+        ensures clock { poller.new.table.reading ≡ poller.old.table.reading }
+        ensures rows { KeepsClosingRows (without_reports poller.old.table place) (closing_keys self.old.streams)
+            poller.new.table (closing_keys self.new.streams) }
     {
+        let mut ports = ports;
+        ports.take_reports(place, &mut poller.table);
         let (bot, server) = ports.into_sockets();
         self.begin(poller, bot);
         self.begin(poller, server);
@@ -493,7 +514,7 @@ impl<'w, S: Duplex + Drop> Closings<'w, S> {
     fn look_around(&mut self, table: &mut SocketTable, now: Option<Instant>)
         ensures looks { LooksAround S.to_give S.taken S.calls now (in_pass self.old) self.new }
         ensures clock { table.new.reading ≡ table.old.reading }
-        ensures rows { HandsRows table.old (closing_keys self.old.streams) table.new (closing_keys self.new.streams) }
+        ensures rows { KeepsClosingRows table.old (closing_keys self.old.streams) table.new (closing_keys self.new.streams) }
     {
         self.begin_pass();
         let came_since = self.sockets.len() - self.pass_end;
@@ -506,7 +527,7 @@ impl<'w, S: Duplex + Drop> Closings<'w, S> {
     pub fn advance(&mut self, table: &mut SocketTable)
         ensures looks { LooksAround S.to_give S.taken S.calls table.old.reading (in_pass self.old) self.new }
         ensures clock { table.new.reading ≡ table.old.reading }
-        ensures rows { HandsRows table.old (closing_keys self.old.streams) table.new (closing_keys self.new.streams) }
+        ensures rows { KeepsClosingRows table.old (closing_keys self.old.streams) table.new (closing_keys self.new.streams) }
     {
         // Most rounds have no closing socket.
         if self.sockets.len() == 0 {
@@ -525,8 +546,8 @@ impl<'w, S: Duplex + Drop> Closings<'w, S> {
             × ((self.new.streams ≡ []) ⊎ (rounds ≡ u64.MAX)) }
         ensures readings { FinishesAll N.transition S.to_give S.taken S.calls u64.MAX poller.old.network
             poller.old.table.reading self.old self.new }
-        ensures rows { HandsRows poller.old.table (closing_keys self.old.streams) poller.new.table
-            (closing_keys self.new.streams) }
+        ensures rows { AreRowsOf poller.old.table (closing_keys self.old.streams) →
+            AreRowsOf poller.new.table (closing_keys self.new.streams) }
     {
         // No place is woken any more.
         poller.table.forget_places();
@@ -542,7 +563,7 @@ impl<'w, S: Duplex + Drop> Closings<'w, S> {
     /// Waits, and watches each socket: it only polls if one may make progress at once, and waits at most until the
     /// nearest deadline.
     pub fn rest<N: Network>(&self, poller: &mut Poller<N>)
-        ensures { RestsOnce N.transition (closings_watched poller.old.table self.now.streams) poller.old.network
+        ensures { WaitsOnce N.transition (closings_watched poller.old.table self.now.streams) poller.old.network
             poller.old.table poller.new.network poller.new.table }
     {
         poller.table.unwatch();

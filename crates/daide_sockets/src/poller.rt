@@ -1,11 +1,11 @@
 //! The network of a run, polled into its table.
 
-ghost use Rattle.std.specs.Prelude.{◌≡◌, ◌⊎◌, ℕ, nat_le, Option, IfSome, IfNone, IfOk, [], true, false};
+ghost use Rattle.std.specs.Prelude.{◌≡◌, ℕ, List, Option, IfOk};
 ghost use Rattle.std.specs.declared.time.Duration.{Duration};
-ghost use Rattle.daide_io.specs.Network.{Listens, Follows};
-ghost use Rattle.daide_sockets.specs.Accepting.{FollowsAtMostOnce};
-ghost use Rattle.daide_sockets.specs.Rows.{HandsRows, KeepsRows, key_in};
-ghost use Rattle.daide_sockets.specs.Table.{PollsOnce, IsFull, IsNoTime, WaitsOnce, TakesRow};
+ghost use Rattle.daide_io.specs.Network.{Follows};
+ghost use Rattle.daide_io.specs.ReadyQueue.{woken_all};
+ghost use Rattle.daide_sockets.specs.Table.{PollsOnce, IsPollTime, freed};
+ghost use Rattle.daide_sockets.specs.Wakeups.{PollsPlaces};
 
 use crate::table::SocketTable;
 use daide_io::network::{Network, SocketEvent};
@@ -29,7 +29,7 @@ pub struct Poller<N: Network> {
 impl<N: Network> Poller<N> {
     /// Creates the poller of a network, and reads the clock. Fails if its memory is refused.
     pub fn new(alloc: Global, network: N, table: SocketTable) -> Result<Poller<N>, AllocError>
-        ensures rows { IfOk result (λ poller. KeepsRows table poller.table) }
+        ensures { IfOk result (λ poller. poller.table ≡ record table { reading = poller.table.reading }) }
     {
         let news = Vec::with_capacity(alloc, EVENTS)?;
         let mut poller = Poller {
@@ -45,35 +45,45 @@ impl<N: Network> Poller<N> {
     /// Has the network follow a connection under the key of a row, of which nothing is known then. Returns whether the
     /// system accepts that.
     pub(crate) fn follow(&mut self, connection: &mut N::Connection, key: usize) -> bool
-        ensures followed { IfSome result (λ key.
-            N.transition self.old.network (Follows connection.old key true connection.new) self.new.network) }
-        ensures refused { IfNone result (IsFull self.new.table ⊎ (key : ℕ)
-            × N.transition self.old.network (Follows connection.old key false connection.new) self.new.network) }
-        ensures calls { FollowsAtMostOnce N.transition connection.old self.old.network self.new.network }
-        ensures row { IfSome result (λ key. TakesRow self.old.table key self.new.table) }
-        ensures rows { HandsRows self.old.table [] self.new.table (key_in result) }
-        ensures clock { self.new.table.reading ≡ self.old.table.reading }
+        ensures call { N.transition self.old.network (Follows connection.old key result connection.new) self.new.network }
+        ensures table { self.new.table ≡ freed self.old.table key }
     {
         self.table.release(key);
         self.network.follow(connection, key)
     }
 
+    /// Returns the time of a poll: none at all if it may not block, or if something that is watched has work; otherwise the
+    /// time until the nearest deadline.
+    fn poll_time(&self, may_block: bool) -> Option<Duration>
+        ensures { IsPollTime may_block self.now.table result }
+    {
+        if !may_block || self.table.has_work() {
+            return Some(Duration::ZERO);
+        }
+        self.table.until_next()
+    }
+
     /// Polls the network once, and reads the clock. Blocks only if it may, and if nothing that is watched has work: until a
     /// socket is ready, or until the nearest deadline.
-    pub(crate) fn poll(&mut self, may_block: bool) {
-        let timeout = if !may_block || self.table.has_work() {
-            Some(Duration::ZERO)
-        } else {
-            self.table.until_next()
-        };
+    pub(crate) fn poll(&mut self, may_block: bool)
+        ensures { (time : Option Duration) × IsPollTime may_block self.old.table time
+            × (polls : PollsOnce N.transition time self.old.network self.old.table self.new.network self.new.table)
+            × (polls.news ≡ self.new.news.items) }
+    {
+        let timeout = self.poll_time(may_block);
         self.network.poll(timeout, &mut self.news);
         self.table.note_news(self.news.as_slice());
         let now = self.network.now();
         self.table.note_now(now);
     }
 
-    /// Polls the network once, and wakes the places for which there is something to do.
-    pub(crate) fn poll_for<A: Allocator>(&mut self, may_block: bool, ready: &mut ReadyQueue<A>) {
+    /// Polls the network once, and wakes the places for which there is something to do. Any other keeps its reports and its
+    /// deadline.
+    pub(crate) fn poll_for<A: Allocator>(&mut self, may_block: bool, ready: &mut ReadyQueue<A>)
+        ensures { (woken : List ℕ) × (ready.new ≡ woken_all woken ready.old)
+            × (time : Option Duration) × IsPollTime may_block self.old.table time
+            × PollsPlaces N.transition time woken self.old.network self.old.table self.new.network self.new.table }
+    {
         self.poll(may_block);
         self.table.wake(self.news.as_slice(), ready);
     }

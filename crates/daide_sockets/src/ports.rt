@@ -5,19 +5,18 @@
 //! writes.
 
 ghost use Rattle.std.specs.Prelude.{◌≡◌, ◌≢◌, ◌+◌, ◌<◌, ◌||◌, ◌&&◌, IsNone, None, [], min, length, take, not, true, false};
+ghost use Rattle.daide_frame.specs.declared.side.Side.TheVariants.{Bot, Server};
 ghost use Rattle.daide_io.specs.Ports.{TurnBegins, Clock as Popped, Pulled, Offered, IsPullWithin, IsPutWithin, pulled_len};
 ghost use Rattle.daide_buffered_io.specs.Buffers.{Passes, ReadsNothing, IsBufferedPull, IsFlushed};
 ghost use Rattle.daide_buffered_io.specs.Calls.{OnlyPuts};
 ghost use Rattle.daide_buffered_io.specs.Streams.{Transfers, stream_of};
 ghost use Rattle.daide_buffered_io.specs.Taking.{bytes_taken};
 ghost use Rattle.daide_sockets.specs.Lingering.{IsWriting};
-ghost use Rattle.daide_sockets.specs.Rows.{KeepsRows};
 ghost use Rattle.daide_sockets.specs.Sockets.{read_if, due_after};
-ghost use Rattle.daide_sockets.specs.Table.{merged, report_at, without_report};
+ghost use Rattle.daide_sockets.specs.Table.{key_of, merged, report_at, without_reports};
 ghost use Rattle.daide_sockets.specs.Timers.{BeginsAt, PullsInTime, PutsInTime, FlushesInTime, BeginsInTime, SetsTimers, clock_event, is_got, timers_of};
 ghost use Rattle.daide_sockets.specs.Times.{IsStallEnd, has_stalled, is_past};
-ghost use Rattle.daide_sockets.specs.Wakeups.{StaysUnread, IsPulled, IsOffered, Settles, KeepsWatched};
-ghost use Rattle.daide_sockets.specs.Wakeups.{session_due};
+ghost use Rattle.daide_sockets.specs.Wakeups.{StaysUnread, IsPulled, IsOffered, Settles, TakesReports, may_session_go_on, session_due};
 
 use crate::socket::{Socket, TurnsHeld};
 use crate::table::{SocketTable, is_past, merged, timeout_end};
@@ -186,7 +185,7 @@ fn put_or_flush_peer<S: Duplex + Drop>(
 ///
 /// A pull with room that finds nothing leaves the socket not readable, with nothing read ahead, or it must be tried again.
 /// A put that nothing is taken of leaves it not writable, or it must be tried again (`transition`, `Settles`). What must be
-/// tried again, and what is held that may be written, is work, which each wait watches (`interest`). A socket that is writable
+/// tried again, and what is held that may be written, is work, with which no session rests (`may_go_on`). A socket that is writable
 /// stays so, but for a write that its stream did not take whole (`transition`, `OnlyPuts`). So while a run waits, bytes are
 /// held only after such a write, or before a poll first reported the socket as writable.
 ///
@@ -372,10 +371,13 @@ impl<'w, S: Drop> SocketPorts<'w, S> {
         (bot, server)
     }
 
-    /// Returns whether something may be done at once: bytes are held that may be written, or a read or a write was
-    /// interrupted.
-    pub(crate) fn has_work(&self) -> bool {
-        self.bot.has_work() || self.server.has_work()
+    /// Returns whether something may be done at once for the session at this place: something was reported of its sockets,
+    /// bytes are held that may be written, or a read or a write was interrupted.
+    pub(crate) fn may_go_on(&self, place: usize, table: &SocketTable) -> bool
+        ensures { result ≡ may_session_go_on table.now place (timers_of self.now).sockets }
+    {
+        (table.is_bot_reported(place) || self.bot.has_work())
+            || (table.is_server_reported(place) || self.server.has_work())
     }
 
     /// Returns the nearest deadline of the session after its last turn; `None` if there is none.
@@ -410,21 +412,21 @@ impl<'w, S: Drop> SocketPorts<'w, S> {
 }
 
 impl<S: Duplex + Drop> SocketPorts<'_, S> {
-    /// Takes the reports of both rows.
-    fn take_reports(&mut self, table: &mut SocketTable)
+    /// Takes the reports of both rows of the session's place.
+    pub(crate) fn take_reports(&mut self, place: usize, table: &mut SocketTable)
         ensures bot { self.new.bot ≡ record self.old.bot {
-          readiness = merged self.old.bot.readiness (report_at table.old self.old.bot.key);
+          readiness = merged self.old.bot.readiness (report_at table.old (key_of place Bot));
         } }
         ensures server { self.new.server ≡ record self.old.server {
-          readiness = merged self.old.server.readiness
-              (report_at (without_report table.old self.old.bot.key) self.old.server.key);
+          readiness = merged self.old.server.readiness (report_at table.old (key_of place Server));
         } }
         ensures rest { self.new ≡ record self.old { bot = self.new.bot; server = self.new.server } }
         ensures streams { (self.new.bot.stream ≡ self.old.bot.stream) × (self.new.server.stream ≡ self.old.server.stream) }
-        ensures table { table.new ≡ without_report (without_report table.old self.old.bot.key) self.old.server.key }
+        ensures table { table.new ≡ without_reports table.old place }
     {
-        self.bot.take_report(table);
-        self.server.take_report(table);
+        let (bot, server) = table.take_reports(place);
+        self.bot.note_report(bot);
+        self.server.note_report(server);
     }
 
     /// Begins a turn of both sockets.
@@ -473,14 +475,14 @@ impl<S: Duplex + Drop> SocketPorts<'_, S> {
         }
     }
 
-    /// Begins a turn of the session: counts it, takes the reports of both rows, gives up stalled peers, writes buffered
-    /// bytes whose turns are over, and reads the deadline of the initial message. Nothing is read, and nothing is put
-    /// yet. All is by the table's reading of the clock.
+    /// Begins a turn of the session at this place: counts it, takes the reports of both rows, gives up stalled peers, writes
+    /// buffered bytes whose turns are over, and reads the deadline of the initial message. Nothing is read, and nothing is
+    /// put yet. All is by the table's reading of the clock.
     ///
     /// `expires`: the IM timer expires exactly in the first turn that begins at its deadline or after it (`once`).
     ///
     /// `timers`: a peer is given up if its stall timeout is over at that reading. No silence begins with a turn.
-    pub fn begin_turn(&mut self, table: &mut SocketTable)
+    pub fn begin_turn(&mut self, place: usize, table: &mut SocketTable)
         ensures begins { Transfers S.to_give S.taken (self.old.bot.stream, self.old.server.stream) TurnBegins
             (self.new.bot.stream, self.new.server.stream) }
         ensures silent { (self.new.bot.timed.is_silent ≡ self.old.bot.timed.is_silent)
@@ -494,16 +496,14 @@ impl<S: Duplex + Drop> SocketPorts<'_, S> {
         ensures once { self.new.im_due ≡ due_after table.old.reading self.old.im_due }
         ensures goes_on { self.new.is_stopped ≡ self.old.is_stopped }
         ensures no_stop { self.new.stops ≡ false }
-        ensures clock { table.new.reading ≡ table.old.reading }
-        ensures counted { table.old.turns < u64.MAX → table.new.turns ≡ table.old.turns + 1 }
         ensures timers { SetsTimers TurnBegins (timers_of self.old) (timers_of self.new) }
         ensures settles { Settles S.calls TurnBegins (self.old.bot, self.old.server) (self.new.bot, self.new.server) }
         ensures keys { (self.new.bot.key ≡ self.old.bot.key) × (self.new.server.key ≡ self.old.server.key) }
-        ensures rows { KeepsRows table.old table.new }
-        ensures watched { KeepsWatched table.old table.new }
+        ensures takes { TakesReports S.calls table.old place (timers_of self.old).sockets (timers_of self.new).sockets
+            table.new }
     {
         self.count_turn(table.now());
-        self.take_reports(table);
+        self.take_reports(place, table);
         self.begin_both();
         self.read_deadline();
     }

@@ -4,19 +4,18 @@
 //! session, and at most `MOST_HELD` bytes each way of each socket. It works over any stream, and its contracts state the
 //! bytes that this returned and accepted.
 
-ghost use Rattle.std.specs.Prelude.{◌≡◌, ◌⊎◌, ℕ, ◌+◌, ◌<◌, ◌||◌, ◌&&◌, nat_lt, IsNone, IfSome, IfNone, None, [], option_map, min, length, take, true, false};
+ghost use Rattle.std.specs.Prelude.{◌≡◌, ◌⊎◌, ℕ, ◌+◌, ◌<◌, ◌||◌, ◌&&◌, nat_lt, Bool, IsNone, IfSome, IfNone, None, [], min, length, take, true, false};
+ghost use Rattle.daide_io.specs.Deadline.{earlier};
 ghost use Rattle.daide_io.specs.Network.{Follows};
-ghost use Rattle.daide_sockets.specs.Accepting.{FollowsAtMostOnce};
 ghost use Rattle.daide_io.specs.Ports.{IsPullWithin, IsPutWithin, pulled_len};
-ghost use Rattle.daide_buffered_io.specs.Buffers.{Passes, ReadsNothing, IsBufferedPull, IsFlushed};
+ghost use Rattle.daide_io.specs.Streams.{IsSameStream};
+ghost use Rattle.daide_buffered_io.specs.Buffers.{Passes, ReadsNothing, IsBufferedPull, IsFlushed, with_stream};
 ghost use Rattle.daide_buffered_io.specs.Calls.{OnlyPuts};
 ghost use Rattle.daide_buffered_io.specs.Taking.{bytes_taken, taken_len};
 ghost use Rattle.daide_sockets.specs.Lingering.{IsWriting, IsWritingOver};
 ghost use Rattle.daide_sockets.specs.Pairing.{IsFresh};
-ghost use Rattle.daide_sockets.specs.Rows.{HandsRows, key_in};
-ghost use Rattle.daide_sockets.specs.Sockets.{has_socket_work, next_deadline};
-ghost use Rattle.daide_io.specs.Deadline.{earlier};
-ghost use Rattle.daide_sockets.specs.Table.{IsFull, merged, report_at, without_report};
+ghost use Rattle.daide_sockets.specs.Sockets.{after_move, has_socket_work, next_deadline};
+ghost use Rattle.daide_sockets.specs.Table.{freed, merged, report_at, without_report};
 ghost use Rattle.daide_sockets.specs.Timers.{IsStallKept, FlushesInTime, BeginsInTime, PutsInTime};
 ghost use Rattle.daide_sockets.specs.Times.{StallsNext, has_stalled, is_past};
 ghost use Rattle.daide_sockets.specs.Wakeups.{StaysUnread, IsNothing, IsPulled, IsOffered};
@@ -77,11 +76,12 @@ impl<'w, S: Duplex + Drop> Socket<'w, S> {
         key: usize,
     ) -> Option<Socket<'w, S>>
         ensures fresh { IfSome result (λ socket. IsFresh socket.stream) }
-        ensures refused { IfNone result (IsFull poller.new.table ⊎ (key : ℕ) × (after : S)
+        ensures followed { IfSome result (λ socket.
+            N.transition poller.old.network (Follows stream key true socket.stream.stream) poller.new.network) }
+        ensures refused { IfNone result ((after : S)
             × N.transition poller.old.network (Follows stream key false after) poller.new.network) }
-        ensures calls { FollowsAtMostOnce N.transition stream poller.old.network poller.new.network }
-        ensures clock { poller.new.table.reading ≡ poller.old.table.reading }
-        ensures rows { HandsRows poller.old.table [] poller.new.table (key_in (option_map (λ socket. socket.key) result)) }
+        ensures key { IfSome result (λ socket. socket.key ≡ key) }
+        ensures table { poller.new.table ≡ freed poller.old.table key }
     {
         let mut stream = stream;
         if !poller.follow(&mut stream, key) {
@@ -90,15 +90,24 @@ impl<'w, S: Duplex + Drop> Socket<'w, S> {
         Some(Socket::over(pool, stream, key))
     }
 
-    /// Has the connection, whose session is over, followed under another key. If the system refuses, nothing more is
-    /// reported of it, so it may be read and written until that finds nothing to do.
+    /// Has the connection, whose session is over, followed under another key. If the system refuses, nothing more is reported
+    /// of it, so it may be read and written until that finds nothing to do.
     pub(crate) fn move_to<N: Network<Connection = S>>(
         &mut self,
         poller: &mut Poller<N>,
         key: usize,
-    ) {
-        self.take_report(&mut poller.table);
-        poller.table.release(self.key);
+    )
+        ensures call { (is_followed : Bool) × N.transition poller.old.network
+            (Follows self.old.stream.stream key is_followed self.new.stream.stream) poller.new.network
+            × (self.new.readiness ≡ after_move is_followed self.old.readiness) }
+        ensures same { IsSameStream S.to_give S.taken S.calls self.old.stream.stream self.new.stream.stream }
+        ensures rest { self.new ≡ record self.old {
+          stream = with_stream self.old.stream self.new.stream.stream;
+          readiness = self.new.readiness;
+          key = key;
+        } }
+        ensures table { poller.new.table ≡ poller.old.table }
+    {
         self.key = key;
         if !poller.network.refollow(self.stream.stream_mut(), key) {
             self.readiness.may_read = true;

@@ -1,32 +1,32 @@
 //! The environment of the event loop, `System`, over sockets.
 
 ghost use Rattle.std.specs.Option.{is_some};
-ghost use Rattle.std.specs.Prelude.{◌≡◌, ◌⊎◌, ℕ, ◌+◌, ◌*◌, ◌^◌, ◌<◌, ◌≤◌, ◌||◌, ◌&&◌, IfSome, IsSome, IsNone, None, Some, true, false, [], length, not, nat_le, Option, slice_get, vec_capacity};
+ghost use Rattle.std.specs.Prelude.{◌≡◌, ◌⊎◌, ℕ, List, ◌<◌, ◌||◌, ◌&&◌, IfSome, IsSome, IsNone, None, true, false, [], length, not, slice_get};
 ghost use Rattle.daide_io.specs.Ports.{TurnBegins};
+ghost use Rattle.daide_io.specs.ReadyQueue.{is_among, woken_all};
+ghost use Rattle.daide_io.specs.System.{Polls, Shows, Accepts, Connects, BeginsTurn, Rests, Retires, Notifies};
 ghost use Rattle.daide_status.specs.declared.snapshot.SessionRow.{SessionRow};
-ghost use Rattle.daide_io.specs.System.{Accepts, Begins, Connects, Notifies, Shows, ReportsNews, BeginsTurn, Watches, Retires, Waits};
 ghost use Rattle.daide_buffered_io.specs.Streams.{Transfers};
 ghost use Rattle.daide_settings.specs.BotsInAll.{bots_in_all};
 ghost use Rattle.daide_sockets.specs.Accepting.{IsUnreached};
 ghost use Rattle.daide_sockets.specs.Beside.{listener_watched, others_watched};
-ghost use Rattle.daide_sockets.specs.declared.ports.SocketPorts.{SocketPorts as PortsOf};
-ghost use Rattle.daide_sockets.specs.ControlSlots.{Each, PlaceShows, places, is_newly_stopped, watching_control};
-ghost use Rattle.daide_sockets.specs.Finishing.{FinishesAll};
-ghost use Rattle.daide_sockets.specs.Snapshot.{seconds_between, IsSessionRow};
-ghost use Rattle.daide_sockets.specs.Lingering.{LooksAround, in_pass, GoOnFor, no_closing};
 ghost use Rattle.daide_sockets.specs.Capacity.{capacity_after};
+ghost use Rattle.daide_sockets.specs.ControlSlots.{Each, PlaceShows, places, watching_control};
+ghost use Rattle.daide_sockets.specs.Finishing.{FinishesAll};
+ghost use Rattle.daide_sockets.specs.InTime.{watching_all};
 ghost use Rattle.daide_sockets.specs.Lines.{milliseconds_between};
-ghost use Rattle.daide_sockets.specs.Pairing.{Arriving, ClosesBothAt, TakesOut};
+ghost use Rattle.daide_sockets.specs.Lingering.{LooksAround, in_pass, GoOnFor, no_closing};
+ghost use Rattle.daide_sockets.specs.Pairing.{Arriving, ClosesBothAt, TakesOut, pending_in};
 ghost use Rattle.daide_sockets.specs.Present.{position_of, time_in, without_at};
-ghost use Rattle.daide_sockets.specs.Rows.{AreRowsOf, HandsRows, KeepsRows, control_keys, keys_of_run};
+ghost use Rattle.daide_sockets.specs.Rows.{AreRowsOf, KeepsClosingRows, closing_keys};
 ghost use Rattle.daide_sockets.specs.Scheduling.{RunEvolves, run_state};
+ghost use Rattle.daide_sockets.specs.Snapshot.{seconds_between, IsSessionRow};
 ghost use Rattle.daide_sockets.specs.Sockets.{due_after};
-ghost use Rattle.daide_sockets.specs.Table.{Table, watching, IsNoTime, PollsOnce};
-ghost use Rattle.std.specs.declared.time.Duration.{Duration};
+ghost use Rattle.daide_sockets.specs.Table.{Table, IsPollTime, unwatched};
 ghost use Rattle.daide_sockets.specs.Timers.{SetsTimers, timers_of};
 ghost use Rattle.daide_sockets.specs.Times.{IsSeconds, IsIdleTime, is_past};
-ghost use Rattle.daide_sockets.specs.Wakeups.{Settles, RestsOnce, KeepsWatched, has_session_news};
-ghost use Rattle.daide_sockets.specs.Interests.{interest_of, may_go_on_for, has_news_for, after_question};
+ghost use Rattle.daide_sockets.specs.Wakeups.{PollsPlaces, Settles};
+ghost use Rattle.daide_sockets.specs.declared.ports.SocketPorts.{SocketPorts as PortsOf};
 
 mod arrivals;
 mod beginning;
@@ -65,45 +65,40 @@ fn idle_time_of(seconds: u32) -> Option<Duration>
 
 /// The sockets of a run: its system. What each call does to them is one relation (`transition`, `RunEvolves`).
 /// `Transits` says what it does to the bots and to the sockets that close. An accept that returned true added one bot,
-/// with the next number and the connect that was begun for it. Ports that are ready have the two connections of one
-/// such bot: its own, and the one made for it. A bot whose server can't be reached begins to close. So do both
-/// connections of a session that is retired, with what is held for them. A pending connect keeps its bot, and may be
-/// begun again. It is given up only after a stop of all sessions, after its deadline, or once each address of the
-/// server was tried (`connected`: `unreached`). Except `begin_round`, no other call changes them.
+/// with the next number, at its place, which was free, and with the connect that was begun for it. Ports that are ready have
+/// the two connections of the bot at their place: its own, and the one made for it. A bot whose server can't be reached begins
+/// to close. So do both connections of a session that is retired, with what is held for them. A pending connect keeps its bot,
+/// and may be begun again. It is given up only after a stop of all sessions, after its deadline, or once each address of the
+/// server was tried (`connected`: `unreached`). Except `poll`, no other call changes them.
 ///
-/// In `begin_round` the sockets that close make progress, by the table's reading of the clock (`tidy`: `closing`): all
-/// of them, or eight if there are more (`ClosingsGoOn`). They keep their order. If a turn begins, what was held for too
-/// long is written to that session's own sockets, and neither is read. There is news for a session exactly if something
-/// may be done at once for it, or its nearest deadline is past (`has_news`: `news`). If there is none, the next wait
-/// watches it (`looks`, `rests`: `after_question`). A wait watches the sessions that it was to watch (`Wakes`), the
-/// listener, each connect and each closing socket (`wait`: `polls`). It polls once, for the time until the nearest
-/// deadline, unless something is pending or may be done at once. Beside that, the network is polled for no time once 32
-/// turns began since the last poll: before a session is asked for news (`has_news`: `looks`, `begin_turn`: `counted`),
-/// and when a round begins. With room for one more, exactly one accept is made if the listener is ready (`accept_next`:
-/// `made`), and no other call but connects for its bot. If it brings no bot, it failed, or its bot may not come, or no
-/// row is left, or the system refused to follow its connection (`kept`). From then on the wait of the round is for bots
-/// too (`awaited`), so it does not block while an accept is due. A bot is accepted only if it may come by the settings,
-/// beside the hosts of those that are there (`allowed`). A bot that comes is added to those, and the end of its session
-/// removes it (`retire` and `let_go`: `hosts`).
+/// In `poll` the sockets that close make progress, by the table's reading of the clock (`tidy`: `closing`): all of them, or
+/// eight if there are more (`ClosingsGoOn`). They keep their order. If a turn begins, what was held for too long is written to
+/// that session's own sockets, and neither is read. A session rests exactly if nothing may be done at once for it, and then
+/// until its nearest deadline (`Wakes`). A poll names each place of which something was reported, and each whose deadline is
+/// past. It polls once, and watches the listener and each closing socket (`PollsForRun`) beside the places and the control
+/// socket. It blocks only if it may, and if nothing of these has work, until the nearest deadline. What it reported of a place
+/// stays in its rows until the session takes it. With a free place, exactly one accept is made if the listener is ready
+/// (`accept_next`: `made`), and no other call but connects for its bot. If it brings no bot, it failed, or its bot may not come,
+/// or the system refused to follow its connection (`kept`). From then on the next poll is for bots too (`awaited`), so it does
+/// not block while an accept is due. A bot is accepted only if it may come by the settings, beside the hosts of those that are
+/// there (`allowed`). A bot that comes is added to those, and the end of its session removes it (`retire` and `let_go`: `hosts`).
 ///
-/// Each call says which rows of the table it takes and frees, by the keys of the sockets that have one (`HandsAlong`).
-/// An accepted bot gets a row, and so does its connect. Ports that are ready have these two, and those of ports that
-/// are retired are the closing sockets' then. A socket that is closed leaves its row free, and so does the listener. A
-/// run begins with those of its listeners (`new`: `rows`). So over a run no row leaks (`no_row_leaks`).
+/// The rows of a place are fixed by its number, and those of the listeners and of control connections by theirs. Only a closing
+/// socket takes a row, and the taken rows are always exactly those of the closing sockets (`HoldsRows`). A run begins with none
+/// (`new`: `rows`).
 ///
 /// No call changes the limits, the ranges, the timeouts or the server of the run (`same`). The timeouts are those of
 /// the settings (`new`: `idle_time`, `stall_time`). The ports of a connect begin with them, at the table's reading of
-/// the clock (`Schedules`).
+/// the clock (`Schedules`). The place of a pending connect rests until the deadline of the connect.
 ///
-/// At the end of `begin_round` the control socket advances, and the next wait watches it (`take_orders`: `control`,
-/// `watched`). Once a stop is requested, or all bots of the run came, the listener for bots is closed (`closes`,
-/// `all_came`). Once it is requested that sessions end now, a pending connect is given up (`look_at_first`:
-/// `given_up`). Each session has news until its next turn (`has_news`: `news`). That turn stops it, and no later one
-/// (`begin_turn`: `stops`, `once`).
+/// At the end of `poll` the control socket advances, and the next poll watches it (`take_orders`: `control`, `watched`). Once a
+/// stop is requested, or all bots of the run came, the listener for bots is closed (`closes`, `all_came`). Once it is requested
+/// that sessions end now, each place is woken (`wake_stopped`), and a pending connect is given up (`look_at`). The next turn of a
+/// session stops it, and no later one (`begin_turn`: `stops`, `once`).
 ///
-/// Before a wait, a run notes whether it is full and whether accepts pause, and logs what changed (`wait`: `capacity`).
+/// In each poll a run notes whether it is full and whether accepts pause, and logs what changed (`poll`: `capacity`).
 ///
-/// Not said: that a wait ended because something came, and that the port in a row of a status is the connection's: the
+/// Not said: that a poll ended because something came, and that the port in a row of a status is the connection's: the
 /// system returns it (`Network::local_address`). That held bytes are given up only after a failed write, or after
 /// `stall_seconds`, is read from `flush_at` and `give_up_stalled`. `SessionNotice::of_end` and `why_of` give the counts
 /// and the cause in a line of a session's end. Tests and `scripts/recorded` show that `--verbose` writes it.
@@ -122,10 +117,8 @@ pub struct Sockets<'w, N: Network, E: Write + Drop> {
     /// The same in seconds, as in the settings.
     stall_seconds: u32,
     connect_time: Duration,
-    /// The bot at each place that was used, while its connect is under way.
+    /// The bot at each place, while its connect is under way.
     arrivals: Vec<Option<PendingConnection<'w, N::Connection>>>,
-    /// How many connects are under way.
-    connecting: usize,
     closings: Closings<'w, N::Connection>,
     /// The ranges of addresses from which a bot may come.
     allow: &'w [AddressRange],
@@ -161,9 +154,10 @@ impl<'w, N: Network, E: Write + Drop> Sockets<'w, N, E> {
         errors: E,
     ) -> Option<Sockets<'w, N, E>>
         ensures none_came { IfSome result (λ sockets. (sockets.acceptor.came ≡ 0) × (sockets.is_verbose ≡ false)) }
-        ensures none_held { IfSome result (λ sockets. (sockets.arrivals.items ≡ [])
+        ensures none_held { IfSome result (λ sockets. (pending_in sockets.arrivals.items ≡ 0)
             × (sockets.closings ≡ no_closing sockets.stall_time)) }
-        ensures room { IfSome result (λ sockets. settings.now.max_sessions ≤ vec_capacity sockets.arrivals) }
+        ensures room { IfSome result (λ sockets. (length sockets.arrivals.items ≡ settings.now.max_sessions)
+            × (length sockets.poller.table.deadlines ≡ length ground.entry.2.deadlines)) }
         ensures im_time { IfSome result (λ sockets. IsSeconds settings.now.im_seconds sockets.im_time) }
         ensures idle_time { IfSome result (λ sockets. IsIdleTime settings.now.idle_seconds sockets.idle_time) }
         ensures stall_time { IfSome result (λ sockets. IsIdleTime settings.now.stall_seconds sockets.stall_time
@@ -178,8 +172,8 @@ impl<'w, N: Network, E: Write + Drop> Sockets<'w, N, E> {
         ensures none_present { IfSome result (λ sockets. (sockets.present.numbers.items ≡ [])
             × (sockets.present.hosts.items ≡ []) × (sockets.present.addresses.items ≡ [])
             × (sockets.present.times.items ≡ [])) }
-        ensures rows { ground.entry.2.rows ≡ [] → IfSome result (λ sockets. AreRowsOf sockets.poller.table
-            (keys_of_run sockets.acceptor (control_keys sockets.control) sockets.arrivals.items sockets.closings.streams)) }
+        ensures rows { AreRowsOf ground.entry.2 [] → IfSome result (λ sockets. AreRowsOf sockets.poller.table
+            (closing_keys sockets.closings.streams)) }
     {
         let (network, servers, table, pool) = ground;
         let stall_time = idle_time_of(settings.stall_seconds);
@@ -204,7 +198,6 @@ impl<'w, N: Network, E: Write + Drop> Sockets<'w, N, E> {
             stall_seconds: settings.stall_seconds,
             connect_time,
             arrivals,
-            connecting: 0,
             closings,
             allow: settings.allow.as_slice(),
             max_per_address: settings.max_per_address,
@@ -280,9 +273,9 @@ impl<'w, N: Network, E: Write + Drop> Sockets<'w, N, E> {
         ensures clock { self.new.poller.table.reading ≡ self.old.poller.table.reading }
         ensures control { self.new.control ≡ self.old.control }
         ensures times { (self.new.idle_time ≡ self.old.idle_time) × (self.new.stall_time ≡ self.old.stall_time) }
-        ensures rows { HandsRows self.old.poller.table (keys_of_run self.old.acceptor (control_keys self.old.control)
-            self.old.arrivals.items self.old.closings.streams) self.new.poller.table (keys_of_run self.new.acceptor
-            (control_keys self.new.control) self.new.arrivals.items self.new.closings.streams) }
+        ensures rows { KeepsClosingRows self.old.poller.table (closing_keys self.old.closings.streams)
+            self.new.poller.table (closing_keys self.new.closings.streams) }
+        ensures network { self.new.poller.network ≡ self.old.poller.network }
         ensures same { self.new ≡ record self.old {
           poller = self.new.poller;
           acceptor = self.new.acceptor;
@@ -347,23 +340,52 @@ impl<'w, N: Network, E: Write + Drop> Sockets<'w, N, E> {
             self.old.poller.network self.old.poller.table.reading self.old.closings self.new.closings }
         ensures came { self.new.acceptor.came ≡ self.old.acceptor.came }
         ensures arrivals { self.new.arrivals.items ≡ self.old.arrivals.items }
-        ensures rows { HandsRows self.old.poller.table (keys_of_run self.old.acceptor (control_keys self.old.control)
-            self.old.arrivals.items self.old.closings.streams) self.new.poller.table (keys_of_run self.new.acceptor
-            (control_keys self.new.control) self.new.arrivals.items self.new.closings.streams) }
+        ensures rows { AreRowsOf self.old.poller.table (closing_keys self.old.closings.streams) →
+            AreRowsOf self.new.poller.table (closing_keys self.new.closings.streams) }
         ensures same { self.new ≡ record self.old { poller = self.new.poller; closings = self.new.closings } }
     {
         self.closings.finish(&mut self.poller);
     }
 
     /// Has the next poll watch the listener and each closing socket, beside the control socket.
-    fn watch_others(&mut self) {
+    fn watch_others(&mut self)
+        ensures watched { self.new.poller.table ≡ watching_all self.old.poller.table (others_watched self.old.poller.table
+            (listener_watched self.old.poller.table self.old.acceptor) self.old.closings.streams) }
+        ensures network { self.new.poller.network ≡ self.old.poller.network }
+        ensures same { self.new ≡ record self.old { poller = self.new.poller } }
+    {
         self.acceptor.watch(&mut self.poller.table);
         self.closings.watch(&mut self.poller.table);
     }
 
-    /// Wakes each place, since an operator stops all sessions.
-    #[inline(never)]
-    fn wake_all<A: Allocator>(&self, ready: &mut ReadyQueue<A>) {
+    /// Polls the network once, for a poll that may block or not, and wakes the places for which there is something to do.
+    fn poll_places<A: Allocator>(&mut self, may_block: bool, ready: &mut ReadyQueue<A>)
+        ensures polls { (woken : List ℕ) × (ready.new ≡ woken_all woken ready.old) × (time : Option Duration)
+            × IsPollTime may_block (watching_all self.old.poller.table (others_watched self.old.poller.table
+            (listener_watched self.old.poller.table self.old.acceptor) self.old.closings.streams)) time
+            × (watched : Table) × (watched ≡ record self.old.poller.table {
+              watched_work = watched.watched_work;
+              watched_due = watched.watched_due;
+            }) × (polled : Table) × PollsPlaces N.transition time woken self.old.poller.network watched
+            self.new.poller.network polled × (self.new.poller.table ≡ unwatched polled) }
+        ensures same { self.new ≡ record self.old { poller = self.new.poller } }
+    {
+        if may_block {
+            self.watch_others();
+        }
+        self.poller.poll_for(may_block, ready);
+        self.poller.table.unwatch();
+    }
+
+    /// Wakes each place once an operator stops all sessions, which was not so before.
+    fn wake_stopped<A: Allocator>(&self, was_stopped: bool, ready: &mut ReadyQueue<A>)
+        ensures { (woken : List ℕ) × (ready.new ≡ woken_all woken ready.old)
+            × (self.now.control.stops_now ≡ true → was_stopped ≡ false → (place : ℕ) →
+            place < length self.now.poller.table.deadlines → is_among place woken ≡ true) }
+    {
+        if was_stopped || !self.control.stops_now() {
+            return;
+        }
         for place in 0..self.poller.table.places() {
             ready.wake(place);
         }
@@ -373,24 +395,45 @@ impl<'w, N: Network, E: Write + Drop> Sockets<'w, N, E> {
 impl<'w, N: Network, E: Write + Drop> System<SocketPorts<'w, N::Connection>> for Sockets<'w, N, E> {
     ghost transition = { λ old answer new. RunEvolves N.transition N.Connection.to_give N.Connection.taken N.Connection.calls
         (λ (ports : PortsOf N.Connection). ports)
-        (run_state (old.poller.network, old.poller.table) (old.idle_time, old.stall_time) old.acceptor old.control
-        (vec_capacity old.arrivals) old.arrivals.items old.closings) answer
-        (run_state (new.poller.network, new.poller.table) (new.idle_time, new.stall_time) new.acceptor new.control
-        (vec_capacity new.arrivals) new.arrivals.items new.closings) };
+        (run_state (old.poller.network, old.poller.table) (old.idle_time, old.stall_time) old.acceptor old.arrivals.items
+        old.closings) answer
+        (run_state (new.poller.network, new.poller.table) (new.idle_time, new.stall_time) new.acceptor new.arrivals.items
+        new.closings) };
 
-    fn poll<A: Allocator>(&mut self, may_block: bool, ready: &mut ReadyQueue<A>) -> Orders {
+    fn poll<A: Allocator>(&mut self, may_block: bool, ready: &mut ReadyQueue<A>) -> Orders
+        ensures transition { (woken : List ℕ) × (ready.new ≡ woken_all woken ready.old)
+            × RunEvolves N.transition N.Connection.to_give N.Connection.taken N.Connection.calls
+            (λ (ports : PortsOf N.Connection). ports)
+            (run_state (self.old.poller.network, self.old.poller.table) (self.old.idle_time, self.old.stall_time) self.old.acceptor
+            self.old.arrivals.items self.old.closings)
+            (Polls may_block woken result)
+            (run_state (self.new.poller.network, self.new.poller.table) (self.new.idle_time, self.new.stall_time) self.new.acceptor
+            self.new.arrivals.items self.new.closings)
+            × (self.new.control.stops_now ≡ true → self.old.control.stops_now ≡ false → (place : ℕ) →
+            place < length self.old.poller.table.deadlines → is_among place woken ≡ true) }
+        ensures orders { result.stops_accepting ≡ self.new.control.stops_accepting }
+        ensures kept { self.old.control.stops_accepting ≡ true → self.new.control.stops_accepting ≡ true }
+        ensures now_kept { self.old.control.stops_now ≡ true → self.new.control.stops_now ≡ true }
+        ensures watched { (before : Table) × (self.new.poller.table ≡ watching_control before self.new.control) }
+        ensures capacity { self.new.capacity ≡ capacity_after self.old.capacity
+            (length self.old.present.numbers.items) self.old.max_sessions (is_some self.old.acceptor.resumes_at)
+            self.old.acceptor.came }
+        ensures same { self.new ≡ record self.old {
+          poller = self.new.poller;
+          acceptor = self.new.acceptor;
+          closings = self.new.closings;
+          control = self.new.control;
+          errors = self.new.errors;
+          capacity = self.new.capacity;
+        } }
+    {
         self.note_capacity();
-        if may_block {
-            self.watch_others();
-        }
-        self.poller.poll_for(may_block, ready);
-        self.poller.table.unwatch();
+        self.poll_places(may_block, ready);
         self.tidy();
         let was_stopped = self.control.stops_now();
         let orders = self.take_orders();
-        if self.control.stops_now() && !was_stopped {
-            self.wake_all(ready);
-        }
+        self.wake_stopped(was_stopped, ready);
+        self.poller.table.is_bounded();
         orders
     }
 
@@ -398,9 +441,9 @@ impl<'w, N: Network, E: Write + Drop> System<SocketPorts<'w, N::Connection>> for
         ensures transition { RunEvolves N.transition N.Connection.to_give N.Connection.taken N.Connection.calls
             (λ (ports : PortsOf N.Connection). ports)
             (run_state (self.old.poller.network, self.old.poller.table) (self.old.idle_time, self.old.stall_time) self.old.acceptor
-            self.old.control (vec_capacity self.old.arrivals) self.old.arrivals.items self.old.closings) (Shows ports.now status)
+            self.old.arrivals.items self.old.closings) (Shows ports.now status)
             (run_state (self.new.poller.network, self.new.poller.table) (self.new.idle_time, self.new.stall_time) self.new.acceptor
-            self.new.control (vec_capacity self.new.arrivals) self.new.arrivals.items self.new.closings) }
+            self.new.arrivals.items self.new.closings) }
         ensures shows { IsSome (slice_get self.old.present.addresses.items
             (position_of ports.now.number self.old.present.numbers.items)) → (row : SessionRow)
             × IsSessionRow self.old.poller.table.reading ports.now.number
@@ -412,9 +455,10 @@ impl<'w, N: Network, E: Write + Drop> System<SocketPorts<'w, N::Connection>> for
         if let Some(row) = self.row_of(ports, status) {
             self.control.show(&row);
         }
+        self.poller.table.is_bounded();
     }
 
-    fn begin_turn(&mut self, _place: usize, ports: &mut SocketPorts<'w, N::Connection>)
+    fn begin_turn(&mut self, place: usize, ports: &mut SocketPorts<'w, N::Connection>)
         ensures ports { Transfers N.Connection.to_give N.Connection.taken
             (ports.old.bot.stream, ports.old.server.stream) TurnBegins (ports.new.bot.stream, ports.new.server.stream)
             × Settles N.Connection.calls TurnBegins (ports.old.bot, ports.old.server) (ports.new.bot, ports.new.server)
@@ -422,9 +466,9 @@ impl<'w, N: Network, E: Write + Drop> System<SocketPorts<'w, N::Connection>> for
         ensures system { RunEvolves N.transition N.Connection.to_give N.Connection.taken N.Connection.calls
             (λ (ports : PortsOf N.Connection). ports)
             (run_state (self.old.poller.network, self.old.poller.table) (self.old.idle_time, self.old.stall_time) self.old.acceptor
-            self.old.control (vec_capacity self.old.arrivals) self.old.arrivals.items self.old.closings) (BeginsTurn ports.old ports.new)
+            self.old.arrivals.items self.old.closings) (BeginsTurn place ports.old ports.new)
             (run_state (self.new.poller.network, self.new.poller.table) (self.new.idle_time, self.new.stall_time) self.new.acceptor
-            self.new.control (vec_capacity self.new.arrivals) self.new.arrivals.items self.new.closings) }
+            self.new.arrivals.items self.new.closings) }
         ensures silent { (ports.new.bot.timed.is_silent ≡ ports.old.bot.timed.is_silent)
             × (ports.new.server.timed.is_silent ≡ ports.old.server.timed.is_silent) }
         ensures gathering { (ports.new.bot.is_gathering ≡ false) × (ports.new.server.is_gathering ≡ false) }
@@ -433,12 +477,11 @@ impl<'w, N: Network, E: Write + Drop> System<SocketPorts<'w, N::Connection>> for
         ensures clock { self.new.poller.table.reading ≡ self.old.poller.table.reading }
         ensures expires { ports.new.im_timer_expired ≡ is_past self.old.poller.table.reading ports.old.im_due }
         ensures im_once { ports.new.im_due ≡ due_after self.old.poller.table.reading ports.old.im_due }
-        ensures counted { self.old.poller.table.turns < u64.MAX →
-            self.new.poller.table.turns ≡ self.old.poller.table.turns + 1 }
         ensures stops { ports.new.is_stopped ≡ (ports.old.is_stopped || self.old.control.stops_now) }
         ensures once { ports.new.stops ≡ (self.old.control.stops_now && not ports.old.is_stopped) }
     {
-        ports.begin_turn(&mut self.poller.table);
+        ports.begin_turn(place, &mut self.poller.table);
+        self.poller.table.is_bounded();
         if self.control.stops_now() {
             ports.stop();
         }
@@ -446,19 +489,21 @@ impl<'w, N: Network, E: Write + Drop> System<SocketPorts<'w, N::Connection>> for
 
     #[inline(always)]
     fn rest(&mut self, place: usize, ports: &SocketPorts<'w, N::Connection>) -> bool
-        ensures rest { self.new ≡ record self.old { poller = self.new.poller } }
-        ensures rows { HandsRows self.old.poller.table (keys_of_run self.old.acceptor (control_keys self.old.control)
-            self.old.arrivals.items self.old.closings.streams) self.new.poller.table (keys_of_run self.new.acceptor
-            (control_keys self.new.control) self.new.arrivals.items self.new.closings.streams) }
-        ensures polls { RestsOnce N.transition (others_watched self.old.poller.table
-            (listener_watched self.old.poller.table self.old.acceptor) self.old.arrivals.items
-            self.old.closings.streams) self.old.poller.network self.old.poller.table self.new.poller.network
-            self.new.poller.table }
+        ensures transition { RunEvolves N.transition N.Connection.to_give N.Connection.taken N.Connection.calls
+            (λ (ports : PortsOf N.Connection). ports)
+            (run_state (self.old.poller.network, self.old.poller.table) (self.old.idle_time, self.old.stall_time) self.old.acceptor
+            self.old.arrivals.items self.old.closings)
+            (Rests place ports.now result)
+            (run_state (self.new.poller.network, self.new.poller.table) (self.new.idle_time, self.new.stall_time) self.new.acceptor
+            self.new.arrivals.items self.new.closings) }
+        ensures same { self.new ≡ record self.old { poller = self.new.poller } }
     {
-        if ports.has_work() {
+        if ports.may_go_on(place, &self.poller.table) {
+            self.poller.table.is_bounded();
             return false;
         }
         self.poller.table.rest(place, ports.due());
+        self.poller.table.is_bounded();
         true
     }
 
@@ -466,9 +511,9 @@ impl<'w, N: Network, E: Write + Drop> System<SocketPorts<'w, N::Connection>> for
         ensures transition { RunEvolves N.transition N.Connection.to_give N.Connection.taken N.Connection.calls
             (λ (ports : PortsOf N.Connection). ports)
             (run_state (self.old.poller.network, self.old.poller.table) (self.old.idle_time, self.old.stall_time) self.old.acceptor
-            self.old.control (vec_capacity self.old.arrivals) self.old.arrivals.items self.old.closings) (Accepts result)
+            self.old.arrivals.items self.old.closings) (Accepts place result)
             (run_state (self.new.poller.network, self.new.poller.table) (self.new.idle_time, self.new.stall_time) self.new.acceptor
-            self.new.control (vec_capacity self.new.arrivals) self.new.arrivals.items self.new.closings) }
+            self.new.arrivals.items self.new.closings) }
         ensures same { self.new ≡ record self.old {
           poller = self.new.poller;
           acceptor = self.new.acceptor;
@@ -480,6 +525,7 @@ impl<'w, N: Network, E: Write + Drop> System<SocketPorts<'w, N::Connection>> for
         // Most rounds end here.
         if !self.acceptor.is_due(&self.poller.table) {
             self.acceptor.await_bots();
+            self.poller.table.is_bounded();
             return false;
         }
         self.accept_due(place)
@@ -489,11 +535,11 @@ impl<'w, N: Network, E: Write + Drop> System<SocketPorts<'w, N::Connection>> for
         ensures transition { RunEvolves N.transition N.Connection.to_give N.Connection.taken N.Connection.calls
             (λ (ports : PortsOf N.Connection). ports)
             (run_state (self.old.poller.network, self.old.poller.table) (self.old.idle_time, self.old.stall_time) self.old.acceptor
-            self.old.control (vec_capacity self.old.arrivals) self.old.arrivals.items self.old.closings) (Connects result)
+            self.old.arrivals.items self.old.closings) (Connects place result)
             (run_state (self.new.poller.network, self.new.poller.table) (self.new.idle_time, self.new.stall_time) self.new.acceptor
-            self.new.control (vec_capacity self.new.arrivals) self.new.arrivals.items self.new.closings) }
+            self.new.arrivals.items self.new.closings) }
         ensures unreached { result ≡ Connect.Failed → self.old.control.stops_now ≡ false →
-            (arrival : Arriving N.Connection) × (mid : N) × TakesOut self.old.arrivals.items arrival self.new.arrivals.items
+            (arrival : Arriving N.Connection) × (mid : N) × TakesOut self.old.arrivals.items place arrival self.new.arrivals.items
             × IsUnreached N.transition self.old.servers.now self.old.poller.table.reading arrival.gives_up arrival.tried mid
             self.new.poller.network }
         ensures same { self.new ≡ record self.old {
@@ -512,16 +558,14 @@ impl<'w, N: Network, E: Write + Drop> System<SocketPorts<'w, N::Connection>> for
         ensures transition { RunEvolves N.transition N.Connection.to_give N.Connection.taken N.Connection.calls
             (λ (ports : PortsOf N.Connection). ports)
             (run_state (self.old.poller.network, self.old.poller.table) (self.old.idle_time, self.old.stall_time) self.old.acceptor
-            self.old.control (vec_capacity self.old.arrivals) self.old.arrivals.items self.old.closings) (Retires ports.entry end)
+            self.old.arrivals.items self.old.closings) (Retires place ports.entry end)
             (run_state (self.new.poller.network, self.new.poller.table) (self.new.idle_time, self.new.stall_time) self.new.acceptor
-            self.new.control (vec_capacity self.new.arrivals) self.new.arrivals.items self.new.closings) }
+            self.new.arrivals.items self.new.closings) }
         ensures closes { ClosesBothAt N.Connection.to_give N.Connection.taken N.Connection.calls
             self.old.poller.table.reading self.old.closings (record {
               number = ports.entry.number;
               bot = ports.entry.bot.stream;
               server = ports.entry.server.stream;
-              bot_key = ports.entry.bot.key;
-              server_key = ports.entry.server.key;
             }) self.new.closings }
         ensures numbers { self.new.present.numbers.items
             ≡ without_at (position_of ports.entry.number self.old.present.numbers.items) self.old.present.numbers.items }
@@ -543,18 +587,20 @@ impl<'w, N: Network, E: Write + Drop> System<SocketPorts<'w, N::Connection>> for
         let notice = SessionNotice::of_end(session, end, ports.timed(), self.stall_seconds);
         self.tell_of_session(notice);
         self.poller.table.forget(place);
-        self.closings.begin_both(&mut self.poller, ports);
+        self.closings.begin_both(&mut self.poller, place, ports);
+        self.poller.table.is_bounded();
     }
 
     fn tell(&mut self, notice: Notice)
         ensures transition { RunEvolves N.transition N.Connection.to_give N.Connection.taken N.Connection.calls
             (λ (ports : PortsOf N.Connection). ports)
             (run_state (self.old.poller.network, self.old.poller.table) (self.old.idle_time, self.old.stall_time) self.old.acceptor
-            self.old.control (vec_capacity self.old.arrivals) self.old.arrivals.items self.old.closings) (Notifies notice)
+            self.old.arrivals.items self.old.closings) (Notifies notice)
             (run_state (self.new.poller.network, self.new.poller.table) (self.new.idle_time, self.new.stall_time) self.new.acceptor
-            self.new.control (vec_capacity self.new.arrivals) self.new.arrivals.items self.new.closings) }
+            self.new.arrivals.items self.new.closings) }
         ensures same { self.new ≡ record self.old { errors = self.new.errors } }
     {
+        self.poller.table.is_bounded();
         // Once sessions end at an operator's request, no connect is tried, so the server was not unreachable.
         if self.control.stops_now() && notice == Notice::CannotReach {
             return;

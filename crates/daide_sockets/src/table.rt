@@ -6,13 +6,14 @@
 //! free row. So an idle session makes no system call, and nothing looks at it.
 
 ghost use Rattle.std.specs.Duration.{as_nanos};
-ghost use Rattle.std.specs.Prelude.{◌≡◌, ℕ, ◌+◌, ◌<◌, ◌≤◌, ◌||◌, if◌then◌else◌, nat_le, length, IsNone, IfSome, IfNone, IfOk, None, [], true, false};
-ghost use Rattle.daide_sockets.specs.Table.{AreReportsWithin, first_free, IsFull, TakesRow};
-ghost use Rattle.daide_sockets.specs.Table.{merged, no_report, report_at, has_report, is_reported_at, has_pending};
-ghost use Rattle.daide_sockets.specs.Table.{without_report, watching, unwatched, freed, with_event, with_news, latest};
-ghost use Rattle.daide_sockets.specs.Table.{IsUntil};
+ghost use Rattle.std.specs.Prelude.{◌≡◌, ℕ, List, [], ◌+◌, ◌*◌, ◌<◌, ◌≤◌, ◌||◌, true, false, min, length, slice_get, replicate, None, IsNone, IfSome, IfNone, IfOk};
+ghost use Rattle.daide_frame.specs.declared.side.Side.TheVariants.{Bot, Server};
 ghost use Rattle.daide_io.specs.Deadline.{earlier};
-ghost use Rattle.daide_sockets.specs.Interests.{may_go_on_for, has_news_for, after_question};
+ghost use Rattle.daide_io.specs.ReadyQueue.{is_among, woken_all};
+ghost use Rattle.daide_sockets.specs.Table.{AreBounded, AreDeadlinesBounded, ForgetsPlaces, IsFull, IsUntil, TakesRow, WakesPlaces};
+ghost use Rattle.daide_sockets.specs.Table.{deadline_in, event_places, forgotten, free_row, freed, row_at};
+ghost use Rattle.daide_sockets.specs.Table.{has_report, is_reported_at, key_of, latest, merged, new_table, report_at, resting, unwatched};
+ghost use Rattle.daide_sockets.specs.Table.{watching, with_event, with_events, without_report, without_reports};
 ghost use Rattle.daide_sockets.specs.Times.{IsAfter, IsStallEnd, StallsNext, is_past, is_time_over};
 
 use daide_buffered_io::readiness::Readiness;
@@ -62,8 +63,8 @@ pub struct SocketTable {
 }
 
 impl Model for SocketTable {
-    ghost use Rattle.std.specs.Prelude.{◌≡◌, ◌+◌, ◌*◌, ◌≤◌, length};
-    ghost use Rattle.daide_sockets.specs.Table.{Table};
+    ghost use Rattle.std.specs.Prelude.{◌≡◌, ◌+◌, ◌*◌, ◌≤◌, length, vec_len};
+    ghost use Rattle.daide_sockets.specs.Table.{Table, AreBounded};
 
     ghost Value = { Table };
 
@@ -76,8 +77,9 @@ impl Model for SocketTable {
       rows = t.rows.items;
     } };
 
-    // each place has a deadline and two rows
-    ghost invariant = { λ t. (length t.deadlines.items ≡ t.places) × (2 * t.places + 6 ≤ length t.rows.items) };
+    // each place has a deadline, which is not before `due`, and two rows
+    ghost invariant = { λ t. (length t.deadlines.items ≡ t.places) × (2 * t.places + 6 ≤ vec_len t.rows)
+        × AreBounded t.due t.deadlines.items };
 }
 
 /// Returns true if a moment is past at the last reading of the clock; false without a moment.
@@ -164,6 +166,13 @@ fn report_of(event: SocketEvent) -> Readiness
     }
 }
 
+/// Returns whether a report has something.
+fn has_report(report: Readiness) -> bool
+    ensures { result ≡ has_report report }
+{
+    report.may_read | report.may_write | report.reads_on
+}
+
 /// Returns whether one of two things is so.
 pub(crate) fn either(one: bool, other: bool) -> bool
     ensures { result ≡ (one || other) }
@@ -172,42 +181,126 @@ pub(crate) fn either(one: bool, other: bool) -> bool
 }
 
 /// Returns the key of the row of the bot at a place.
-pub(crate) fn bot_key(place: usize) -> usize {
+pub(crate) fn bot_key(place: usize) -> usize
+    ensures { result ≡ min (key_of place Bot) usize.MAX }
+{
     place.saturating_mul(2)
 }
 
 /// Returns the key of the row of the server at a place.
-pub(crate) fn server_key(place: usize) -> usize {
+pub(crate) fn server_key(place: usize) -> usize
+    ensures { result ≡ min (key_of place Server) usize.MAX }
+{
     place.saturating_mul(2).saturating_add(1)
+}
+
+/// Returns the number of rows for this number of places and of closing sockets; `None` if they are too many.
+fn row_count(places: usize, closing: usize) -> Option<usize>
+    ensures { IfSome result (λ count. count ≡ 2 * places + 6 + closing) }
+{
+    places
+        .checked_mul(2)?
+        .checked_add(FIXED_ROWS)?
+        .checked_add(closing)
+}
+
+/// Returns this number of rows without a socket. Fails if their memory is refused.
+fn free_rows(alloc: Global, count: usize) -> Result<Vec<Row>, AllocError>
+    ensures { IfOk result (λ rows. rows.items ≡ replicate count free_row) }
+{
+    let mut rows = Vec::with_capacity(alloc, count)?;
+    for _row in 0..count {
+        rows.push_reserved(Row::FREE);
+    }
+    Ok(rows)
+}
+
+/// Returns no deadline for each of this number of places. Fails if their memory is refused.
+fn no_deadlines(alloc: Global, places: usize) -> Result<Vec<Option<Instant>>, AllocError>
+    ensures { IfOk result (λ deadlines. deadlines.items ≡ replicate places None) }
+{
+    let mut deadlines = Vec::with_capacity(alloc, places)?;
+    for _place in 0..places {
+        deadlines.push_reserved(None);
+    }
+    Ok(deadlines)
+}
+
+/// Returns the key of the first free row, from `first` on; `None` if all are taken.
+fn first_free(rows: &[Row], first: usize) -> Option<usize>
+    ensures some { IfSome result (λ key. (first ≤ key) × (key < length rows.now) × ((row_at rows.now key).is_taken ≡ false)) }
+    ensures none { IfNone result ((key : ℕ) → first ≤ key → key < length rows.now → (row_at rows.now key).is_taken ≡ true) }
+{
+    for key in first..rows.len() {
+        if !rows[key].is_taken {
+            return Some(key);
+        }
+    }
+    None
+}
+
+/// Forgets each of these deadlines.
+fn forget_all(deadlines: &mut [Option<Instant>])
+    ensures none { (place : ℕ) → deadline_in (slice_get deadlines.new place) ≡ None }
+    ensures places { length deadlines.new ≡ length deadlines.old }
+{
+    for place in 0..deadlines.len() {
+        deadlines[place] = None;
+    }
+}
+
+/// Wakes each place whose deadline is past, and forgets that. Returns the nearest deadline of the others.
+#[inline(never)]
+fn wake_late<A: Allocator>(
+    now: Option<Instant>,
+    deadlines: &mut [Option<Instant>],
+    ready: &mut ReadyQueue<A>,
+) -> Option<Instant>
+    ensures woken { (woken : List ℕ) × (ready.new ≡ woken_all woken ready.old)
+        × ((place : ℕ) → is_among place woken ≡ false →
+        (deadline_in (slice_get deadlines.new place) ≡ deadline_in (slice_get deadlines.old place))
+        × (is_past now (deadline_in (slice_get deadlines.old place)) ≡ false)) }
+    ensures bounded { AreBounded result deadlines.new }
+    ensures places { length deadlines.new ≡ length deadlines.old }
+{
+    let mut nearest = None;
+    for place in 0..deadlines.len() {
+        let due = deadlines[place];
+        if is_past(now, due) {
+            deadlines[place] = None;
+            ready.wake(place);
+        } else {
+            nearest = earlier(nearest, due);
+        }
+    }
+    nearest
 }
 
 impl SocketTable {
     /// Creates a table for this number of places and of closing sockets, before any reading of the clock. Fails if its
-    /// memory is refused.
+    /// memory is refused, or if they are too many.
     pub fn new(alloc: Global, places: usize, closing: usize) -> Result<SocketTable, AllocError>
-        ensures rows { IfOk result (λ table. table ≡ record { reading = None; turns = 0; has_news = false; watched_work = false; watched_due = None; max_rows = sockets; rows = [] }) }
+        ensures { IfOk result (λ table. table ≡ new_table places closing) }
     {
-        let sockets = places
-            .saturating_mul(2)
-            .saturating_add(FIXED_ROWS)
-            .saturating_add(closing);
-        let mut rows = Vec::with_capacity(alloc, sockets)?;
-        for _row in 0..sockets {
-            rows.push_reserved(Row::FREE);
-        }
-        let mut deadlines = Vec::with_capacity(alloc, places)?;
-        for _place in 0..places {
-            deadlines.push_reserved(None);
-        }
+        let Some(count) = row_count(places, closing) else {
+            return Err(AllocError);
+        };
         Ok(SocketTable {
             reading: None,
             places,
-            deadlines,
+            deadlines: no_deadlines(alloc, places)?,
             due: None,
             watched_work: false,
             watched_due: None,
-            rows,
+            rows: free_rows(alloc, count)?,
         })
+    }
+
+    /// Proof hook: establishes for callers that no place has a deadline before `due`. No effect at run time.
+    pub(crate) fn is_bounded(&self)
+        ensures { AreDeadlinesBounded self.now }
+    {
+        let _ = &self.due;
     }
 
     /// Returns the last reading of the clock; `None` if it cannot be read.
@@ -235,38 +328,46 @@ impl SocketTable {
     // ---- rows
 
     /// Returns the number of places.
-    pub(crate) fn places(&self) -> usize {
+    pub(crate) fn places(&self) -> usize
+        ensures count { result ≡ length self.now.deadlines }
+        ensures few { 2 * result + 6 ≤ usize.MAX }
+    {
         self.places
     }
 
     /// Returns the key of the row of the listener for bots.
-    pub(crate) fn listener_key(&self) -> usize {
-        self.places.saturating_mul(2)
+    pub(crate) fn listener_key(&self) -> usize
+        ensures key { result ≡ 2 * length self.now.deadlines }
+        ensures few { result + 6 ≤ usize.MAX }
+    {
+        self.places * 2
     }
 
     /// Returns the key of the row of the listener for control connections.
-    pub(crate) fn control_key(&self) -> usize {
-        self.listener_key().saturating_add(1)
+    pub(crate) fn control_key(&self) -> usize
+        ensures { result ≡ 2 * length self.now.deadlines + 1 }
+    {
+        self.listener_key() + 1
     }
 
     /// Returns the key of the row of the control connection with this number, from 0 to 3.
-    pub(crate) fn control_connection_key(&self, number: usize) -> usize {
-        self.listener_key().saturating_add(2).saturating_add(number)
+    pub(crate) fn control_connection_key(&self, number: usize) -> usize
+        ensures { number < 4 → result ≡ 2 * length self.now.deadlines + 2 + number }
+    {
+        (self.listener_key() + 2).saturating_add(number)
     }
 
     /// Takes a free row for a closing socket, and returns its key; `None` if there is none.
-    pub(crate) fn take_closing_row(&mut self) -> Option<usize> {
-        let first = self.listener_key().saturating_add(FIXED_ROWS);
-        for key in first..self.rows.len() {
-            if !self.rows[key].is_taken {
-                self.rows[key] = Row {
-                    is_taken: true,
-                    ..Row::FREE
-                };
-                return Some(key);
-            }
-        }
-        None
+    pub(crate) fn take_closing_row(&mut self) -> Option<usize>
+        ensures row { IfSome result (λ key. TakesRow self.old key self.new) }
+        ensures full { IfNone result (IsFull self.old × (self.new ≡ self.old)) }
+    {
+        let key = first_free(&self.rows, self.listener_key() + FIXED_ROWS)?;
+        self.rows[key] = Row {
+            is_taken: true,
+            ..Row::FREE
+        };
+        Some(key)
     }
 
     /// Clears a row, since another socket may have it.
@@ -280,7 +381,8 @@ impl SocketTable {
 
     /// Returns what polls reported of a socket since it last took the report.
     pub fn report(&self, key: usize) -> Readiness
-        ensures { result ≡ report_at self.now key }
+        ensures report { result ≡ report_at self.now key }
+        ensures few { length self.now.rows ≤ usize.MAX }
     {
         match self.rows.get(key) {
             Some(row) => row.report,
@@ -293,6 +395,7 @@ impl SocketTable {
     pub fn take_report(&mut self, key: usize) -> Readiness
         ensures report { result ≡ report_at self.old key }
         ensures table { self.new ≡ without_report self.old key }
+        ensures few { length self.old.rows ≤ usize.MAX }
     {
         if key >= self.rows.len() {
             return Readiness::UNKNOWN;
@@ -300,6 +403,34 @@ impl SocketTable {
         let report = self.rows[key].report;
         self.rows[key].report = Readiness::UNKNOWN;
         report
+    }
+
+    /// Returns the reports of the sockets of a place, the bot's and the server's, and takes them out of their rows.
+    #[inline(always)]
+    pub(crate) fn take_reports(&mut self, place: usize) -> (Readiness, Readiness)
+        ensures bot { result.0 ≡ report_at self.old (key_of place Bot) }
+        ensures server { result.1 ≡ report_at self.old (key_of place Server) }
+        ensures table { self.new ≡ without_reports self.old place }
+    {
+        let bot = self.take_report(bot_key(place));
+        let server = self.take_report(server_key(place));
+        (bot, server)
+    }
+
+    /// Returns whether something was reported of the bot at a place since it last took the report.
+    #[inline(always)]
+    pub(crate) fn is_bot_reported(&self, place: usize) -> bool
+        ensures { result ≡ is_reported_at self.now (key_of place Bot) }
+    {
+        has_report(self.report(bot_key(place)))
+    }
+
+    /// Returns whether something was reported of the server at a place since it last took the report.
+    #[inline(always)]
+    pub(crate) fn is_server_reported(&self, place: usize) -> bool
+        ensures { result ≡ is_reported_at self.now (key_of place Server) }
+    {
+        has_report(self.report(server_key(place)))
     }
 
     /// Adds the report of an event to its row.
@@ -314,22 +445,32 @@ impl SocketTable {
 
     /// Adds what a poll reported to the rows.
     pub(crate) fn note_news(&mut self, news: &[SocketEvent])
-        ensures { self.new ≡ with_news self.old news.now }
+        ensures { self.new ≡ record self.old { rows = with_events self.old.rows news.now } }
     {
         for event in news {
             self.note_event(*event);
         }
     }
 
-    /// Wakes the places to whose sockets a poll reported something, and those whose deadline is past.
-    pub(crate) fn wake<A: Allocator>(&mut self, news: &[SocketEvent], ready: &mut ReadyQueue<A>) {
+    /// Wakes the places of which a poll reported these events.
+    fn wake_reported<A: Allocator>(&self, news: &[SocketEvent], ready: &mut ReadyQueue<A>)
+        ensures { ready.new ≡ woken_all (event_places (2 * length self.now.deadlines) news.now) ready.old }
+    {
         for event in news {
             if event.key < self.listener_key() {
                 ready.wake(event.key / 2);
             }
         }
+    }
+
+    /// Wakes the places of which a poll reported these events, and those whose deadline is past.
+    pub(crate) fn wake<A: Allocator>(&mut self, news: &[SocketEvent], ready: &mut ReadyQueue<A>)
+        ensures { (woken : List ℕ) × (ready.new ≡ woken_all woken ready.old)
+            × WakesPlaces news.now woken self.old self.new }
+    {
+        self.wake_reported(news, ready);
         if is_past(self.reading, self.due) {
-            self.wake_late(ready);
+            self.due = wake_late(self.reading, &mut self.deadlines, ready);
         }
     }
 
@@ -337,39 +478,30 @@ impl SocketTable {
 
     /// Has a place rest until this deadline at the latest; `None` for ever.
     #[inline(always)]
-    pub(crate) fn rest(&mut self, place: usize, due: Option<Instant>) {
+    pub(crate) fn rest(&mut self, place: usize, due: Option<Instant>)
+        ensures { self.new ≡ resting self.old place due }
+    {
+        self.due = earlier(self.due, due);
         if place < self.deadlines.len() {
             self.deadlines[place] = due;
-            self.due = earlier(self.due, due);
         }
     }
 
     /// Forgets the deadline of a place, whose session is over.
-    pub(crate) fn forget(&mut self, place: usize) {
+    pub(crate) fn forget(&mut self, place: usize)
+        ensures { self.new ≡ forgotten self.old place }
+    {
         if place < self.deadlines.len() {
             self.deadlines[place] = None;
         }
     }
 
     /// Forgets the deadlines of all places, since the run is over.
-    pub(crate) fn forget_places(&mut self) {
+    pub(crate) fn forget_places(&mut self)
+        ensures { ForgetsPlaces self.old self.new }
+    {
+        forget_all(&mut self.deadlines);
         self.due = None;
-    }
-
-    /// Wakes each place whose deadline is past, and finds the nearest deadline of the others.
-    #[inline(never)]
-    fn wake_late<A: Allocator>(&mut self, ready: &mut ReadyQueue<A>) {
-        let mut nearest = None;
-        for place in 0..self.deadlines.len() {
-            let due = self.deadlines[place];
-            if is_past(self.reading, due) {
-                self.deadlines[place] = None;
-                ready.wake(place);
-            } else {
-                nearest = earlier(nearest, due);
-            }
-        }
-        self.due = nearest;
     }
 
     /// Records a reading of the clock. Without one the last reading stays.
@@ -401,13 +533,15 @@ impl SocketTable {
     }
 
     /// Returns whether a poll must not block, since something that it watches has work.
-    pub(crate) fn has_work(&self) -> bool {
+    pub(crate) fn has_work(&self) -> bool
+        ensures { result ≡ self.now.watched_work }
+    {
         self.watched_work
     }
 
     /// Returns the time from the last reading of the clock until the nearest deadline; `None` without one.
     pub(crate) fn until_next(&self) -> Option<Duration>
-        ensures { IsUntil self.now.reading self.now.watched_due result }
+        ensures { IsUntil self.now.reading (earlier self.now.due self.now.watched_due) result }
     {
         match (self.reading, earlier(self.due, self.watched_due)) {
             (Some(now), Some(moment)) => Some(moment.saturating_duration_since(now)),

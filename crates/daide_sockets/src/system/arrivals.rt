@@ -2,22 +2,25 @@
 
 ghost use Rattle.std.specs.Duration.{as_nanos};
 ghost use Rattle.std.specs.Net.Socket.{socket_ip};
+ghost use Rattle.std.specs.Prelude.{◌≡◌, ℕ, ◌<◌, ◌≤◌, ◌&&◌, nat_lt, IfSome, IfNone, None, Some, true, false, length, slice_set};
+ghost use Rattle.daide_io.specs.System.{Accepts, Connects};
+ghost use Rattle.daide_frame.specs.declared.side.Side.TheVariants.{Server};
 ghost use Rattle.daide_settings.specs.Ranges.{host_of, may_come};
-ghost use Rattle.std.specs.Prelude.{◌≡◌, ℕ, List, ◌+◌, ◌<◌, ◌++◌, [], ◌∷◌, IfSome, IfNone, None, Some, true, false, length, not, vec_capacity};
-ghost use Rattle.daide_io.specs.System.{Accepts};
-ghost use Rattle.daide_buffered_io.specs.Buffers.{Buffer};
-ghost use Rattle.daide_sockets.specs.Accepting.{is_accept_due, AcceptsThenConnects, BringsNoBot, IsUnreached, GivesConnection};
-ghost use Rattle.daide_sockets.specs.declared.ports.SocketPorts.{SocketPorts as PortsOf};
-ghost use Rattle.daide_sockets.specs.Pairing.{Arriving, FirstArrivalEvolves, ClosesAt, Comes, ComesWith};
+ghost use Rattle.daide_sockets.specs.Accepting.{is_bot_due, AcceptsThenConnects, BringsNoBot, IsUnreached, GivesConnection};
+ghost use Rattle.daide_sockets.specs.KeptRows.{ChangesRows, IsAcceptRow};
+ghost use Rattle.daide_sockets.specs.Pairing.{Arriving, ClosesAt, Comes, ComesWith, TakesOut, arrival_at, is_free_place};
 ghost use Rattle.daide_sockets.specs.Present.{HasRoomForOne, IsAllowed, IsPresentWith, position_of, without_at};
-ghost use Rattle.daide_sockets.specs.Rows.{HandsRows, closing_keys, connected_keys, control_keys, keys_of_run};
+ghost use Rattle.daide_sockets.specs.Rows.{KeepsClosingRows, closing_keys};
 ghost use Rattle.daide_sockets.specs.Scheduling.{RunEvolves, run_state};
-ghost use Rattle.daide_sockets.specs.Timers.{BeginsAt, timers_of};
+ghost use Rattle.daide_sockets.specs.Table.{forgotten, key_of};
+ghost use Rattle.daide_sockets.specs.Wakeups.{GoesUnpolled};
+ghost use Rattle.daide_sockets.specs.declared.ports.SocketPorts.{SocketPorts as PortsOf};
 
 use super::Sockets;
 use crate::admission::{PendingConnection, Unreached};
 use crate::ports::SocketPorts;
 use crate::session_notice::SessionNotice;
+use crate::table::{bot_key, server_key};
 use daide_io::network::Network;
 use daide_io::system::Connect;
 use std::io::Write;
@@ -47,7 +50,7 @@ impl<'w, N: Network, E: Write + Drop> Sockets<'w, N, E> {
     /// Ends the session of a bot whose server was unreachable, and starts the close of its socket.
     fn let_go(&mut self, place: usize, left: Unreached<'w, N::Connection>)
         ensures closes { ClosesAt N.Connection.to_give N.Connection.taken N.Connection.calls
-            self.old.poller.table.reading self.old.closings left.entry.bot.key left.entry.bot.stream self.new.closings }
+            self.old.poller.table.reading self.old.closings left.entry.bot.stream self.new.closings }
         ensures numbers { self.new.present.numbers.items
             ≡ without_at (position_of left.entry.number self.old.present.numbers.items) self.old.present.numbers.items }
         ensures hosts { self.new.present.hosts.items
@@ -55,8 +58,8 @@ impl<'w, N: Network, E: Write + Drop> Sockets<'w, N, E> {
         ensures addresses { self.new.present.addresses.items
             ≡ without_at (position_of left.entry.number self.old.present.numbers.items) self.old.present.addresses.items }
         ensures clock { self.new.poller.table.reading ≡ self.old.poller.table.reading }
-        ensures network { self.new.poller.network ≡ self.old.poller.network }
-        ensures rows { HandsRows self.old.poller.table (left.entry.bot.key ∷ closing_keys self.old.closings.streams)
+        ensures calls { GoesUnpolled N.transition self.old.poller.network self.new.poller.network }
+        ensures rows { KeepsClosingRows (forgotten self.old.poller.table place) (closing_keys self.old.closings.streams)
             self.new.poller.table (closing_keys self.new.closings.streams) }
         ensures times { self.new.present.times.items
             ≡ without_at (position_of left.entry.number self.old.present.numbers.items) self.old.present.times.items }
@@ -68,7 +71,6 @@ impl<'w, N: Network, E: Write + Drop> Sockets<'w, N, E> {
           errors = self.new.errors;
         } }
     {
-        self.connecting = self.connecting.saturating_sub(1);
         self.poller.table.forget(place);
         let lasted = self.lasted(left.number);
         self.present.remove(left.number);
@@ -77,14 +79,69 @@ impl<'w, N: Network, E: Write + Drop> Sockets<'w, N, E> {
         self.closings.begin(&mut self.poller, left.bot);
     }
 
+    /// Takes out the bot at a place whose connect is under way, if there is one.
+    fn take_arrival(&mut self, place: usize) -> Option<PendingConnection<'w, N::Connection>>
+        ensures some { IfSome result (λ arrival. TakesOut self.old.arrivals.items place arrival self.new.arrivals.items) }
+        ensures rows { IfSome result (λ _. (place < length self.old.poller.table.deadlines)
+            × (key_of place Server ≤ usize.MAX)) }
+        ensures none { IfNone result ((place < length self.old.poller.table.deadlines →
+            arrival_at self.old.arrivals.items place ≡ None) × (self.new.arrivals.items ≡ self.old.arrivals.items)) }
+        ensures same { self.new ≡ record self.old { arrivals = self.new.arrivals } }
+    {
+        if place >= self.poller.table.places() || place >= self.arrivals.len() {
+            return None;
+        }
+        self.arrivals[place].take()
+    }
+
+    /// Puts a bot whose connect is under way to a place.
+    fn put_arrival(&mut self, place: usize, arrival: PendingConnection<'w, N::Connection>)
+        ensures put { self.new.arrivals.items ≡ slice_set self.old.arrivals.items place (Some arrival.entry) }
+        ensures same { self.new ≡ record self.old { arrivals = self.new.arrivals } }
+    {
+        if place < self.arrivals.len() {
+            self.arrivals[place] = Some(arrival);
+        }
+    }
+
+    /// Returns whether a bot may have this place: it has rows, and no connect is under way there.
+    fn has_place(&self, place: usize) -> bool
+        ensures free { result ≡ (nat_lt place (length self.now.poller.table.deadlines)
+            && is_free_place self.now.arrivals.items place) }
+        ensures rows { result ≡ true → (place < length self.now.poller.table.deadlines)
+            × (key_of place Server ≤ usize.MAX) }
+    {
+        place < self.poller.table.places()
+            && place < self.arrivals.len()
+            && self.arrivals[place].is_none()
+    }
+
     /// Returns the result of the connect for the bot at a place, if it has one. Otherwise the place rests, until something is
     /// reported of the connect, or until its deadline. After a request that sessions end now, the connect is given up.
     #[inline(never)]
-    pub(super) fn look_at(&mut self, place: usize) -> Connect<SocketPorts<'w, N::Connection>> {
-        if place >= self.arrivals.len() {
-            return Connect::Pending;
-        }
-        let Some(arrival) = self.arrivals[place].take() else {
+    pub(super) fn look_at(&mut self, place: usize) -> Connect<SocketPorts<'w, N::Connection>>
+        ensures transition { RunEvolves N.transition N.Connection.to_give N.Connection.taken N.Connection.calls
+            (λ (ports : PortsOf N.Connection). ports)
+            (run_state (self.old.poller.network, self.old.poller.table) (self.old.idle_time, self.old.stall_time) self.old.acceptor
+            self.old.arrivals.items self.old.closings)
+            (Connects place result)
+            (run_state (self.new.poller.network, self.new.poller.table) (self.new.idle_time, self.new.stall_time) self.new.acceptor
+            self.new.arrivals.items self.new.closings) }
+        ensures unreached { result ≡ Connect.Failed → self.old.control.stops_now ≡ false →
+            (arrival : Arriving N.Connection) × (mid : N) × TakesOut self.old.arrivals.items place arrival self.new.arrivals.items
+            × IsUnreached N.transition self.old.servers.now self.old.poller.table.reading arrival.gives_up arrival.tried mid
+            self.new.poller.network }
+        ensures same { self.new ≡ record self.old {
+          poller = self.new.poller;
+          arrivals = self.new.arrivals;
+          closings = self.new.closings;
+          present = self.new.present;
+          unreached = self.new.unreached;
+          errors = self.new.errors;
+        } }
+    {
+        let Some(arrival) = self.take_arrival(place) else {
+            self.poller.table.is_bounded();
             return Connect::Pending;
         };
         let mut arrival = arrival;
@@ -92,16 +149,17 @@ impl<'w, N: Network, E: Write + Drop> Sockets<'w, N, E> {
             self.let_go(place, arrival.give_up());
             return Connect::Failed;
         }
-        if arrival.advances(&mut self.poller, self.servers) {
+        if arrival.advances(&mut self.poller, self.servers, server_key(place)) {
             self.poller.table.rest(place, arrival.due());
-            self.arrivals[place] = Some(arrival);
+            self.put_arrival(place, arrival);
+            self.poller.table.is_bounded();
             return Connect::Pending;
         }
         let now = self.poller.table.now();
         match arrival.join(now, (self.idle_time, self.stall_time)) {
             Ok(ports) => {
-                self.connecting = self.connecting.saturating_sub(1);
                 self.tell_of_server(&ports);
+                self.poller.table.is_bounded();
                 Connect::Ready(ports)
             }
             Err(left) => {
@@ -122,7 +180,7 @@ impl<'w, N: Network, E: Write + Drop> Sockets<'w, N, E> {
     /// `kept`: if a due accept brings no bot, and one more may be present, then it failed, or its bot may not come, or no row
     /// is left, or the system refused to follow its connection. No other bot is dropped.
     ///
-    /// `awaited`: the wait of this round is for bots too, so it does not block while an accept is due.
+    /// `awaited`: the next poll is for bots too, so it does not block while an accept is due.
     ///
     /// `left`: if no bot came, none is due any more, unless one gave a connection that may not come or was refused.
     ///
@@ -134,39 +192,37 @@ impl<'w, N: Network, E: Write + Drop> Sockets<'w, N, E> {
     /// reading of the clock as its time.
     pub(super) fn accept_next(&mut self, place: usize) -> Option<SessionNotice>
         ensures comes { IfSome result (λ _. Comes
-            (record { came = self.old.acceptor.came; arrivals = self.old.arrivals.items; closing = self.old.closings })
+            (record { came = self.old.acceptor.came; arrivals = self.old.arrivals.items; closing = self.old.closings }) place
             (record { came = self.new.acceptor.came; arrivals = self.new.arrivals.items; closing = self.new.closings })) }
         ensures none { IfNone result ((self.new.acceptor.came ≡ self.old.acceptor.came)
             × (self.new.arrivals.items ≡ self.old.arrivals.items) × (self.new.closings ≡ self.old.closings)) }
-        ensures made { length self.old.arrivals.items < vec_capacity self.old.arrivals →
-            self.old.acceptor.came < u32.MAX → is_accept_due self.old.poller.table self.old.acceptor.key
-            self.old.acceptor.readiness self.old.acceptor.resumes_at ≡ true →
+        ensures made { place < length self.old.poller.table.deadlines →
+            is_free_place self.old.arrivals.items place ≡ true →
+            self.old.acceptor.came < u32.MAX → is_bot_due self.old.poller.table self.old.acceptor ≡ true →
             AcceptsThenConnects N.transition self.old.servers.now self.old.poller.network self.new.poller.network }
-        ensures not_made { (length self.old.arrivals.items < vec_capacity self.old.arrivals →
-            self.old.acceptor.came < u32.MAX → is_accept_due self.old.poller.table self.old.acceptor.key
-            self.old.acceptor.readiness self.old.acceptor.resumes_at ≡ false) →
+        ensures not_made { (place < length self.old.poller.table.deadlines →
+            is_free_place self.old.arrivals.items place ≡ true →
+            self.old.acceptor.came < u32.MAX → is_bot_due self.old.poller.table self.old.acceptor ≡ false) →
             self.new.poller.network ≡ self.old.poller.network }
-        ensures kept { IfNone result (length self.old.arrivals.items < vec_capacity self.old.arrivals →
-            self.old.acceptor.came < u32.MAX → is_accept_due self.old.poller.table self.old.acceptor.key
-            self.old.acceptor.readiness self.old.acceptor.resumes_at ≡ true → HasRoomForOne self.old.present →
+        ensures kept { IfNone result (place < length self.old.poller.table.deadlines →
+            is_free_place self.old.arrivals.items place ≡ true →
+            self.old.acceptor.came < u32.MAX → is_bot_due self.old.poller.table self.old.acceptor ≡ true → HasRoomForOne self.old.present →
             BringsNoBot N.transition (λ address. may_come self.old.allow.now self.old.max_per_address
-            self.old.present.hosts.items (host_of (socket_ip address))) self.old.poller.network self.new.poller.table
+            self.old.present.hosts.items (host_of (socket_ip address))) self.old.poller.network
             self.new.poller.network) }
         ensures awaited { self.new.acceptor.awaits_bots ≡ true }
-        ensures left { IfNone result (length self.old.arrivals.items < vec_capacity self.old.arrivals →
-            self.old.acceptor.came < u32.MAX → is_accept_due self.new.poller.table self.new.acceptor.key
-            self.new.acceptor.readiness self.new.acceptor.resumes_at ≡ true →
+        ensures left { IfNone result (place < length self.old.poller.table.deadlines →
+            is_free_place self.old.arrivals.items place ≡ true →
+            self.old.acceptor.came < u32.MAX → is_bot_due self.new.poller.table self.new.acceptor ≡ true →
             GivesConnection N.transition self.old.poller.network) }
-        ensures times { IfSome result (λ _. ComesWith self.old.arrivals.items self.old.poller.table.reading
+        ensures times { IfSome result (λ _. ComesWith self.old.arrivals.items place self.old.poller.table.reading
             (as_nanos self.old.im_time) (as_nanos self.old.connect_time) self.new.arrivals.items) }
         ensures allowed { IfSome result (λ began. IsAllowed self.old.allow.now self.old.max_per_address
             self.old.present.hosts.items began) }
         ensures present { IfSome result (λ began. IsPresentWith self.old.poller.table.reading self.old.present began
             self.new.present) }
         ensures absent { IfNone result (self.new.present ≡ self.old.present) }
-        ensures rows { HandsRows self.old.poller.table (keys_of_run self.old.acceptor (control_keys self.old.control)
-            self.old.arrivals.items self.old.closings.streams) self.new.poller.table (keys_of_run self.new.acceptor
-            (control_keys self.new.control) self.new.arrivals.items self.new.closings.streams) }
+        ensures table { ChangesRows (IsAcceptRow self.old.poller.table place) self.old.poller.table self.new.poller.table }
         ensures same { self.new ≡ record self.old {
           poller = self.new.poller;
           acceptor = self.new.acceptor;
@@ -176,12 +232,12 @@ impl<'w, N: Network, E: Write + Drop> Sockets<'w, N, E> {
         } }
     {
         self.acceptor.await_bots();
-        if place >= self.poller.table.places() {
+        if !self.has_place(place) {
             return None;
         }
         let rules = (self.allow, self.max_per_address);
         let next = self.acceptor.next_bot(
-            place,
+            bot_key(place),
             &mut self.poller,
             self.pool,
             rules,
@@ -195,13 +251,10 @@ impl<'w, N: Network, E: Write + Drop> Sockets<'w, N, E> {
             }
         };
         let times = (self.im_time, self.connect_time);
-        let came = (number, place, bot);
-        let arrival = PendingConnection::new(&mut self.poller, self.servers, came, times);
-        while self.arrivals.len() <= place && self.arrivals.len() < self.arrivals.capacity() {
-            self.arrivals.push_reserved(None);
-        }
-        self.arrivals[place] = Some(arrival);
-        self.connecting += 1;
+        let key = server_key(place);
+        let arrival =
+            PendingConnection::new(&mut self.poller, self.servers, key, (number, bot), times);
+        self.put_arrival(place, arrival);
         Some(SessionNotice::Began {
             number,
             bot: address,
@@ -215,9 +268,9 @@ impl<'w, N: Network, E: Write + Drop> Sockets<'w, N, E> {
         ensures transition { RunEvolves N.transition N.Connection.to_give N.Connection.taken N.Connection.calls
             (λ (ports : PortsOf N.Connection). ports)
             (run_state (self.old.poller.network, self.old.poller.table) (self.old.idle_time, self.old.stall_time) self.old.acceptor
-            self.old.control (vec_capacity self.old.arrivals) self.old.arrivals.items self.old.closings) (Accepts result)
+            self.old.arrivals.items self.old.closings) (Accepts place result)
             (run_state (self.new.poller.network, self.new.poller.table) (self.new.idle_time, self.new.stall_time) self.new.acceptor
-            self.new.control (vec_capacity self.new.arrivals) self.new.arrivals.items self.new.closings) }
+            self.new.arrivals.items self.new.closings) }
         ensures same { self.new ≡ record self.old {
           poller = self.new.poller;
           acceptor = self.new.acceptor;
@@ -227,9 +280,11 @@ impl<'w, N: Network, E: Write + Drop> Sockets<'w, N, E> {
         } }
     {
         let Some(began) = self.accept_next(place) else {
+            self.poller.table.is_bounded();
             return false;
         };
         self.tell_of_session(began);
+        self.poller.table.is_bounded();
         true
     }
 }

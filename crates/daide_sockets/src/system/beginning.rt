@@ -1,8 +1,8 @@
 //! What the sockets of a run are made of when it begins.
 
-ghost use Rattle.std.specs.Prelude.{◌≡◌, ◌≤◌, ◌++◌, IfSome, false, [], vec_capacity};
+ghost use Rattle.std.specs.Prelude.{◌≡◌, IfOk, IfSome, false, [], length};
 ghost use Rattle.daide_sockets.specs.Lingering.{no_closing};
-ghost use Rattle.daide_sockets.specs.Rows.{AreRowsOf, control_keys, listener_keys};
+ghost use Rattle.daide_sockets.specs.Pairing.{pending_in};
 
 use crate::admission::{Acceptor, PendingConnection};
 use crate::control::Control;
@@ -12,17 +12,31 @@ use crate::present::Present;
 use crate::table::SocketTable;
 use daide_io::duplex::Duplex;
 use daide_io::network::Network;
-use std::alloc::Global;
+use std::alloc::{AllocError, Global};
 use std::time::Duration;
 
 /// The bots and the sockets of a run, of which there are none yet.
 pub(super) struct RunLists<'w, S: Duplex + Drop> {
-    /// The bots whose connects are under way.
+    /// The bot at each place, while its connect is under way.
     pub arrivals: Vec<Option<PendingConnection<'w, S>>>,
     /// The bots that are there.
     pub present: Present,
     /// The sockets that close.
     pub closings: Closings<'w, S>,
+}
+
+/// Returns this number of places at which no connect is under way. Fails if their memory is refused.
+fn no_arrivals<'w, S: Duplex + Drop>(
+    alloc: Global,
+    places: usize,
+) -> Result<Vec<Option<PendingConnection<'w, S>>>, AllocError>
+    ensures { IfOk result (λ arrivals. (pending_in arrivals.items ≡ 0) × (length arrivals.items ≡ places)) }
+{
+    let mut arrivals = Vec::with_capacity(alloc, places)?;
+    for _place in 0..places {
+        arrivals.push_reserved(None);
+    }
+    Ok(arrivals)
 }
 
 impl<'w, S: Duplex + Drop> RunLists<'w, S> {
@@ -33,12 +47,13 @@ impl<'w, S: Duplex + Drop> RunLists<'w, S> {
         max_sessions: usize,
         stall_time: Option<Duration>,
     ) -> Option<RunLists<'w, S>>
-        ensures none_held { IfSome result (λ lists. (lists.arrivals.items ≡ []) × (lists.closings ≡ no_closing stall_time)) }
-        ensures room { IfSome result (λ lists. max_sessions ≤ vec_capacity lists.arrivals) }
+        ensures none_held { IfSome result (λ lists. (pending_in lists.arrivals.items ≡ 0)
+            × (lists.closings ≡ no_closing stall_time)) }
+        ensures room { IfSome result (λ lists. length lists.arrivals.items ≡ max_sessions) }
         ensures none_present { IfSome result (λ lists. (lists.present.numbers.items ≡ []) × (lists.present.hosts.items ≡ [])
             × (lists.present.addresses.items ≡ []) × (lists.present.times.items ≡ [])) }
     {
-        let Ok(arrivals) = Vec::with_capacity(alloc, max_sessions) else {
+        let Ok(arrivals) = no_arrivals(alloc, max_sessions) else {
             return None;
         };
         let present = Present::new(alloc, max_sessions)?;
@@ -65,14 +80,12 @@ pub(super) struct Listening<N: Network> {
 
 impl<N: Network> Listening<N> {
     /// Has the listeners of a network followed. Returns `None` if memory is refused, or if a listener cannot be followed.
-    ///
-    /// `rows`: in a table without rows exactly the listeners have one then.
     pub fn new(alloc: Global, network: N, table: SocketTable) -> Option<Listening<N>>
         ensures none_came { IfSome result (λ listening. (listening.acceptor.came ≡ 0) × (listening.acceptor.is_closed ≡ false)) }
         ensures no_orders { IfSome result (λ listening. (listening.control.stops_accepting ≡ false)
             × (listening.control.stops_now ≡ false)) }
-        ensures rows { table.rows ≡ [] → IfSome result (λ listening. AreRowsOf listening.poller.table
-            (listener_keys listening.acceptor ++ control_keys listening.control)) }
+        ensures table { IfSome result (λ listening.
+            listening.poller.table ≡ record table { reading = listening.poller.table.reading }) }
     {
         let Ok(mut poller) = Poller::new(alloc, network, table) else {
             return None;

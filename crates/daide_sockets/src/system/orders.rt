@@ -1,16 +1,18 @@
 //! What an operator requests of a run: its status, and its stop.
 
-ghost use Rattle.std.specs.Prelude.{◌≡◌, ◌+◌, ◌<◌, ◌≤◌, ◌||◌, ◌&&◌, ◌∷◌, [], None, nat_le, true, false, length, not};
+ghost use Rattle.std.specs.Prelude.{◌≡◌, ◌<◌, ◌≤◌, ◌&&◌, ◌∷◌, [], None, nat_le, true, false, length};
 ghost use Rattle.daide_io.specs.Network.{StopsListening};
 ghost use Rattle.daide_status.specs.declared.snapshot.RunStatus.{RunStatus};
-ghost use Rattle.daide_sockets.specs.Accepting.{is_accept_due};
-ghost use Rattle.daide_sockets.specs.ControlSlots.{BeginsRound, is_newly_stopped, places, watching_control};
+ghost use Rattle.daide_sockets.specs.Accepting.{is_bot_due};
+ghost use Rattle.daide_sockets.specs.ControlSlots.{BeginsRound, IsControlRow, places, watching_control};
+ghost use Rattle.daide_sockets.specs.KeptRows.{ChangesRows};
+ghost use Rattle.daide_sockets.specs.Pairing.{pending_in};
 ghost use Rattle.daide_sockets.specs.Snapshot.{counted, seconds_between, or_zero, IsRunStatus};
-ghost use Rattle.daide_sockets.specs.Rows.{HandsRows, control_keys, keys_of_run};
 ghost use Rattle.daide_sockets.specs.Table.{Table};
+ghost use Rattle.daide_sockets.specs.Wakeups.{GoesUnpolled};
 
 use super::Sockets;
-use crate::control::seconds_between;
+use crate::admission::pending_count;
 use daide_io::network::Network;
 use daide_io::system::Orders;
 use daide_status::RunStatus;
@@ -27,14 +29,12 @@ impl<'w, N: Network, E: Write + Drop> Sockets<'w, N, E> {
     /// Returns the status of the run.
     fn run_status(&self) -> RunStatus
         ensures { IsRunStatus self.now.acceptor.came (length self.now.present.numbers.items)
-            (length self.now.arrivals.items) self.now.unreached
+            (pending_in self.now.arrivals.items) self.now.unreached
             (nat_le self.now.max_sessions (length self.now.present.numbers.items)
-            && (not self.now.acceptor.is_closed
-            && is_accept_due self.now.poller.table self.now.acceptor.key self.now.acceptor.readiness
-            self.now.acceptor.resumes_at)) self.now.control.stops_accepting
+            && is_bot_due self.now.poller.table self.now.acceptor) self.now.control.stops_accepting
             (or_zero (seconds_between self.now.control.started_at self.now.poller.table.reading)) result }
     {
-        let connecting = counted(self.connecting);
+        let connecting = counted(pending_count(self.arrivals.as_slice()));
         let present = counted(self.present.len());
         let is_full = self.present.len() >= self.max_sessions;
         RunStatus {
@@ -46,9 +46,7 @@ impl<'w, N: Network, E: Write + Drop> Sockets<'w, N, E> {
                 .saturating_sub(present)
                 .saturating_sub(self.unreached),
             unreached: self.unreached,
-            has_waiting: is_full
-                && !self.acceptor.is_closed()
-                && self.acceptor.is_due(&self.poller.table),
+            has_waiting: is_full && self.acceptor.is_due(&self.poller.table),
             is_stopping: self.control.stops_accepting(),
             seconds: self.control.seconds(self.poller.table.now()),
         }
@@ -66,7 +64,8 @@ impl<'w, N: Network, E: Write + Drop> Sockets<'w, N, E> {
     fn has_no_orders(&self) -> bool
         ensures open { result ≡ true → self.now.bots_in_all ≤ self.now.acceptor.came → self.now.acceptor.is_closed ≡ true }
         ensures free { result ≡ true → places self.now.control.slots ≡ None ∷ None ∷ None ∷ None ∷ [] }
-        ensures watched { result ≡ true → (any : Table) → any ≡ watching_control any self.now.control }
+        ensures watched { result ≡ true →
+            self.now.poller.table ≡ watching_control self.now.poller.table self.now.control }
     {
         (self.acceptor.is_closed() || !self.has_all_bots())
             && self.control.is_at_rest(&self.poller.table)
@@ -75,20 +74,17 @@ impl<'w, N: Network, E: Write + Drop> Sockets<'w, N, E> {
     /// Advances the control socket, with the status of the run, and returns the operator's orders.
     fn begin_control(&mut self) -> Orders
         ensures control { (run : RunStatus) × IsRunStatus self.old.acceptor.came
-            (length self.old.present.numbers.items) (length self.old.arrivals.items) self.old.unreached
+            (length self.old.present.numbers.items) (pending_in self.old.arrivals.items) self.old.unreached
             (nat_le self.old.max_sessions (length self.old.present.numbers.items)
-            && (not self.old.acceptor.is_closed
-            && is_accept_due self.old.poller.table self.old.acceptor.key self.old.acceptor.readiness
-            self.old.acceptor.resumes_at)) self.old.control.stops_accepting
+            && is_bot_due self.old.poller.table self.old.acceptor) self.old.control.stops_accepting
             (or_zero (seconds_between self.old.control.started_at self.old.poller.table.reading)) run
             × BeginsRound N.Connection.to_give N.Connection.taken
-            N.Connection.calls run self.old.poller.table.reading self.old.control result self.new.control }
-        ensures clock { self.new.poller.table.reading ≡ self.old.poller.table.reading }
+            N.Connection.calls run self.old.poller.table self.old.control result self.new.control }
+        ensures calls { GoesUnpolled N.transition self.old.poller.network self.new.poller.network }
+        ensures table { ChangesRows (IsControlRow self.old.poller.table) self.old.poller.table self.new.poller.table }
         ensures kept { self.old.control.stops_accepting ≡ true → self.new.control.stops_accepting ≡ true }
         ensures now_kept { self.old.control.stops_now ≡ true → self.new.control.stops_now ≡ true }
         ensures same { self.new ≡ record self.old { poller = self.new.poller; control = self.new.control } }
-        ensures rows { HandsRows self.old.poller.table (control_keys self.old.control) self.new.poller.table
-            (control_keys self.new.control) }
     {
         let run = self.run_status();
         self.control.begin_round(&mut self.poller, &run)
@@ -99,21 +95,21 @@ impl<'w, N: Network, E: Write + Drop> Sockets<'w, N, E> {
     ///
     /// `control`: a status has the run as it is at the beginning of the round.
     ///
-    /// `watched`: the next wait watches the control socket.
+    /// `watched`: the next poll watches the control socket.
     pub(super) fn take_orders(&mut self) -> Orders
         ensures orders { result.stops_accepting ≡ self.new.control.stops_accepting }
         ensures kept { self.old.control.stops_accepting ≡ true → self.new.control.stops_accepting ≡ true }
         ensures now_kept { self.old.control.stops_now ≡ true → self.new.control.stops_now ≡ true }
         ensures control { (run : RunStatus) × IsRunStatus self.old.acceptor.came
-            (length self.old.present.numbers.items) (length self.old.arrivals.items) self.old.unreached
+            (length self.old.present.numbers.items) (pending_in self.old.arrivals.items) self.old.unreached
             (nat_le self.old.max_sessions (length self.old.present.numbers.items)
-            && (not self.old.acceptor.is_closed
-            && is_accept_due self.old.poller.table self.old.acceptor.key self.old.acceptor.readiness
-            self.old.acceptor.resumes_at)) self.old.control.stops_accepting
+            && is_bot_due self.old.poller.table self.old.acceptor) self.old.control.stops_accepting
             (or_zero (seconds_between self.old.control.started_at self.old.poller.table.reading)) run
             × BeginsRound N.Connection.to_give N.Connection.taken
-            N.Connection.calls run self.old.poller.table.reading self.old.control result self.new.control }
-        ensures watched { (before : Table) × (self.new.poller.table ≡ watching_control before self.new.control) }
+            N.Connection.calls run self.old.poller.table self.old.control result self.new.control }
+        ensures watched { (before : Table) × ChangesRows (IsControlRow self.old.poller.table) self.old.poller.table before
+            × (self.new.poller.table ≡ watching_control before self.new.control) }
+        ensures calls { GoesUnpolled N.transition self.old.poller.network self.new.poller.network }
         ensures closes { result.stops_accepting ≡ true → self.old.control.stops_accepting ≡ false →
             (before : N) × N.transition before StopsListening self.new.poller.network }
         ensures all_came { self.old.bots_in_all ≤ self.old.acceptor.came → self.old.acceptor.is_closed ≡ false →
@@ -123,10 +119,6 @@ impl<'w, N: Network, E: Write + Drop> Sockets<'w, N, E> {
         ensures closed { (self.old.bots_in_all ≤ self.old.acceptor.came → self.new.acceptor.is_closed ≡ true)
             × (result.stops_accepting ≡ true → self.old.control.stops_accepting ≡ false → self.new.acceptor.is_closed ≡ true) }
         ensures came { self.new.acceptor.came ≡ self.old.acceptor.came }
-        ensures clock { self.new.poller.table.reading ≡ self.old.poller.table.reading }
-        ensures rows { HandsRows self.old.poller.table (keys_of_run self.old.acceptor (control_keys self.old.control)
-            self.old.arrivals.items self.old.closings.streams) self.new.poller.table (keys_of_run self.new.acceptor
-            (control_keys self.new.control) self.new.arrivals.items self.new.closings.streams) }
         ensures same { self.new ≡ record self.old {
           poller = self.new.poller;
           acceptor = self.new.acceptor;

@@ -1,13 +1,12 @@
-use Rattle.std.proofs.Common.{◌≡◌, ℕ, ◌+◌, ◌-◌, [], length}
+use Rattle.std.proofs.Common.{◌≡◌, ℕ, ◌+◌, ◌-◌, length}
 use Rattle.daide_sockets.specs.Accepting.{ConnectsFrom}
-use Rattle.daide_sockets.specs.Rows.{HandsRows}
+use Rattle.daide_sockets.specs.KeptRows.{ChangesRows}
 use Rattle.daide_sockets.proofs.admission.begun.Given as goal
 
--- nothing reads the clock, each connect that was not followed left its row free, and each address so far was tried once
+-- only the row of the connects changed, and each address so far was tried once
 abbrev pub invariant-loop-address : goal.invariant-loop-address
 invariant-loop-address g l = record {
-  clock : l.poller.table.reading ≡ l.initial.poller.table.reading;
-  rows : HandsRows l.initial.poller.table [] l.poller.table [];
+  table : ChangesRows (λ row. row ≡ l.key) l.initial.poller.table l.poller.table;
   calls : (count : ℕ) × (l.tried ≡ l.initial.tried + count)
       × ConnectsFrom g.N.Network.transition l.servers l.initial.tried count l.initial.poller.network l.poller.network;
 }

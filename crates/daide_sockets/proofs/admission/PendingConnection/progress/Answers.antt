@@ -1,5 +1,9 @@
 use Rattle.std.proofs.Common.{inr}
+use Rattle.daide_sockets.proofs.KeptRowLemmas.{report_changes}
 use Rattle.daide_sockets.proofs.admission.PendingConnection.progress.Goals as goal
 
 pub returns-clause-calls : goal.returns-clause-calls
 returns-clause-calls g c = inr (c.connection.result.now, c.connect_status-status.result, c.connect_status-status.ensures)
+
+pub returns-clause-table : goal.returns-clause-table
+returns-clause-table g c = report_changes _ _ _ c.take_report-report.ensures.table

@@ -1,12 +1,15 @@
-use Rattle.std.proofs.Common.{◌≡◌, ℕ, Option, [], ◌∷◌, ap, sym, ◌∙◌, subst, inr, rules}
-use Rattle.daide_sockets.specs.ControlSlots.{places}
-use Rattle.daide_sockets.specs.Rows.{control_listener_keys}
-use Rattle.daide_sockets.specs.declared.control.ControlListener.{ControlListener}
+use Rattle.std.proofs.Common.{◌≡◌, ℕ, Option, ap, sym, subst, inr, refl, arith, rules}
 use Rattle.std.specs.Duration.{as_nanos}
 use Rattle.std.specs.declared.time.Instant.{Instant}
 use Rattle.daide_sockets.specs.Times.{IsAfter}
-use Rattle.daide_sockets.proofs.ControlRowLemmas.{comes_to_place}
+use Rattle.daide_sockets.proofs.ControlLemmas.{connection_row}
+use Rattle.daide_sockets.proofs.KeptRowLemmas.{changes_none, same_reading}
+use Rattle.daide_sockets.proofs.UnpolledLemmas.{none}
 use Rattle.daide_sockets.proofs.control.Control.accept.Goals as goal
+
+pub accept-requires : goal.accept-requires
+accept-requires g c =
+    connection_row _ _ c.first_free.result (c.first_free.ensures (search rules)) (c.control_connection_key-key.ensures (c.first_free.ensures (search rules)))
 
 pub returns-clause-accepts : goal.returns-clause-accepts
 returns-clause-accepts g c =
@@ -21,17 +24,20 @@ returns-clause-accepts g c =
         line = c.new.ensures.empty;
         closes_at = subst (λ (m : Option Instant). IsAfter reading 2000000000 m) (sym c.new.ensures.closes_at)
             (subst (λ (n : ℕ). IsAfter reading n moment) nanos
-            (subst (λ (r : Option Instant). IsAfter r (as_nanos c.from_secs.result) moment) c.accept.ensures.clock
-            c.after-closes_at.ensures));
+            (subst (λ (r : Option Instant). IsAfter r (as_nanos c.from_secs.result) moment)
+            (same_reading _ _ _ c.accept.ensures.table) c.after-closes_at.ensures));
       },
       c.put.ensures,
     )
 
-pub returns-clause-rows : goal.returns-clause-rows
-returns-clause-rows g c =
-    comes_to_place {S = g.row.S.Denot} c.args.poller.now.table c.accept.new.poller.table c.in-Some-accept.key
-    (control_listener_keys c.args.self.now.listener) (c.accept.new.self.key ∷ []) (places c.args.self.now.slots)
-    (places c.put.new.self) c.new.result (rw c.in-Some-accept.is at c.accept.ensures.rows) c.new.ensures.key (search rules)
-    c.put.ensures
-    (ap (λ (n : ℕ). n ∷ []) c.accept.ensures.key
-    ∙ sym (ap (λ (l : Option ControlListener). control_listener_keys l) c.in-Some.is))
+pub returns-in_default-listener-clause-table : goal.returns-in_default-listener-clause-table
+returns-in_default-listener-clause-table g c = changes_none _ _ _ refl
+
+pub returns-in_default-listener-clause-calls : goal.returns-in_default-listener-clause-calls
+returns-in_default-listener-clause-calls g c = none g.N.Network.transition _ _ refl
+
+pub returns-then-not-has_room-clause-table : goal.returns-then-not-has_room-clause-table
+returns-then-not-has_room-clause-table g c = changes_none _ _ _ refl
+
+pub returns-then-not-has_room-clause-calls : goal.returns-then-not-has_room-clause-calls
+returns-then-not-has_room-clause-calls g c = none g.N.Network.transition _ _ refl

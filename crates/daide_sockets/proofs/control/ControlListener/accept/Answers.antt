@@ -1,14 +1,42 @@
-use Rattle.std.proofs.Common.{[]}
-use Rattle.daide_sockets.proofs.RowLemmas.{handed_both, none_handed, report_taken}
+use Rattle.std.proofs.Common.{refl}
+use Rattle.daide_io.specs.Network.{AcceptsControl, Follows}
+use Rattle.daide_sockets.proofs.ControlLemmas.{listener_reported, listener_followed}
+use Rattle.daide_sockets.proofs.KeptRowLemmas.{changes_none}
+use Rattle.daide_sockets.proofs.UnpolledLemmas.{both, none, one}
 use Rattle.daide_sockets.proofs.control.ControlListener.accept.Goals as goal
 
-pub returns-in-Err-clause-rows : goal.returns-in-Err-clause-rows
-returns-in-Err-clause-rows g c = none_handed _ _ [] (report_taken _ _ _ c.take_report-report.ensures.table)
+pub returns-then-not-is_due-clause-table : goal.returns-then-not-is_due-clause-table
+returns-then-not-is_due-clause-table g c = changes_none _ _ _ refl
 
-pub returns-clause-rows : goal.returns-clause-rows
-returns-clause-rows g c =
-    handed_both _ _ _ [] [] _ (none_handed _ _ [] (report_taken _ _ _ c.take_report-report.ensures.table))
-    (rw c.in-Some.is at c.follow.ensures.rows)
+pub returns-then-not-is_due-clause-calls : goal.returns-then-not-is_due-clause-calls
+returns-then-not-is_due-clause-calls g c = none g.N.Network.transition _ _ refl
+
+pub returns-in-Err-clause-table : goal.returns-in-Err-clause-table
+returns-in-Err-clause-table g c =
+    listener_reported _ _ _ c.control_key-own.ensures c.take_report-report.ensures.table
+
+pub returns-in-Err-clause-calls : goal.returns-in-Err-clause-calls
+returns-in-Err-clause-calls g c = one g.N.Network.transition _ _ (AcceptsControl c.accept_control.result) refl c.accept_control.ensures
+
+pub returns-then-not-follow-clause-table : goal.returns-then-not-follow-clause-table
+returns-then-not-follow-clause-table g c =
+    listener_followed _ _ _ _ c.args.key c.control_key-own.ensures c.take_report-report.ensures.table c.follow.ensures.table c.requires
+
+pub returns-then-not-follow-clause-calls : goal.returns-then-not-follow-clause-calls
+returns-then-not-follow-clause-calls g c =
+    both g.N.Network.transition _ _ _
+    (one g.N.Network.transition _ _ (AcceptsControl c.accept_control.result) refl c.accept_control.ensures)
+    (one g.N.Network.transition _ _ (Follows _ c.args.key c.follow.result _) refl c.follow.ensures.call)
+
+pub returns-clause-table : goal.returns-clause-table
+returns-clause-table g c =
+    listener_followed _ _ _ _ c.args.key c.control_key-own.ensures c.take_report-report.ensures.table c.follow.ensures.table c.requires
+
+pub returns-clause-calls : goal.returns-clause-calls
+returns-clause-calls g c =
+    both g.N.Network.transition _ _ _
+    (one g.N.Network.transition _ _ (AcceptsControl c.accept_control.result) refl c.accept_control.ensures)
+    (one g.N.Network.transition _ _ (Follows _ c.args.key c.follow.result _) refl c.follow.ensures.call)
 
 pub returns-in-Err-clause-made : goal.returns-in-Err-clause-made
 returns-in-Err-clause-made g c = λ due. record {
@@ -17,8 +45,8 @@ returns-in-Err-clause-made g c = λ due. record {
   call = c.accept_control.ensures;
 }
 
-pub returns-in_default-clause-made : goal.returns-in_default-clause-made
-returns-in_default-clause-made g c = λ due. record {
+pub returns-then-not-follow-clause-made : goal.returns-then-not-follow-clause-made
+returns-then-not-follow-clause-made g c = λ due. record {
   accepted = c.accept_control.result;
   mid = c.accept_control.new.self;
   call = c.accept_control.ensures;

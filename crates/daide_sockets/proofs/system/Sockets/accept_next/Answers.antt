@@ -1,14 +1,14 @@
-use Rattle.std.proofs.Common.{[], ◌∷◌, ◌∙◌, ap, refl, rules}
-use Rattle.daide_sockets.specs.declared.admission.Acceptor.{Acceptor}
-use Rattle.daide_sockets.specs.Rows.{listener_keys}
-use Rattle.daide_sockets.proofs.RowLemmas.{handed_both}
-use Rattle.daide_sockets.proofs.RunRowLemmas.{arrival_hands, none_come}
+use Rattle.std.proofs.Common.{◌≡◌, ℕ, ◌<◌, refl, rules, arith}
+use Rattle.daide_frame.specs.declared.side.Side.TheVariants.{Bot, Server}
+use Rattle.daide_sockets.specs.Table.{key_of}
+use Rattle.daide_sockets.proofs.KeptRowLemmas.{accept_only, accept_then, changes_none}
 use Rattle.daide_sockets.proofs.system.Sockets.accept_next.Goals as goal
 
 pub returns-clause-comes : goal.returns-clause-comes
 returns-clause-comes g c = record {
   arrival = c.new-arrival.result;
   came = search rules;
+  free = search rules;
   arrivals = search rules;
   number = search rules;
   bot = search rules;
@@ -20,25 +20,34 @@ pub returns-clause-times : goal.returns-clause-times
 returns-clause-times g c = (c.new-arrival.result, search rules, search rules, search rules)
 
 pub returns-in-Err-clause-left : goal.returns-in-Err-clause-left
-returns-in-Err-clause-left g c = λ room few due.
+returns-in-Err-clause-left g c = λ lt free few due.
     c.in-Err.ensures.left (rw c.await_bots.ensures few) (rw c.tell_of_declined.ensures at due)
 
-pub returns-in-Err-clause-rows : goal.returns-in-Err-clause-rows
-returns-in-Err-clause-rows g c =
-    rw c.tell_of_declined.ensures
-    (none_come _ _ c.args.self.now.acceptor c.next_bot-next.new.self _ _ _ (c.next_bot-next.ensures.row ∙ ap (λ (a : Acceptor). listener_keys a) c.await_bots.ensures)
-    (rw c.in-Err.is at c.next_bot-next.ensures.rows))
+pub returns-then-not-has_place-clause-table : goal.returns-then-not-has_place-clause-table
+returns-then-not-has_place-clause-table g c = changes_none _ _ _ refl
 
-pub returns-clause-rows : goal.returns-clause-rows
-returns-clause-rows g c =
-    arrival_hands _ _ c.args.self.now.acceptor c.next_bot-next.new.self _ _ _ _ c.new-arrival.result
-    (c.next_bot-next.ensures.row ∙ ap (λ (a : Acceptor). listener_keys a) c.await_bots.ensures) (search rules)
-    (handed_both _ _ _ [] (c.in-Ok.next.1.key ∷ []) _ (rw c.in-Ok.is at c.next_bot-next.ensures.rows) c.new-arrival.ensures.rows)
+pub returns-in-Err-clause-table : goal.returns-in-Err-clause-table
+returns-in-Err-clause-table g c =
+    let has = c.has_place.ensures.rows c.if-not-has_place.false in
+    let lt : c.args.place < _ = has.0 in
+    let most = has.1 in
+    let key : c.bot_key.result ≡ key_of c.args.place Bot = omega (arith, most, c.bot_key.ensures) in
+    rw c.tell_of_declined.ensures (accept_only _ _ c.args.place _ lt key c.next_bot-next.ensures.table)
+
+pub returns-clause-table : goal.returns-clause-table
+returns-clause-table g c =
+    let has = c.has_place.ensures.rows c.if-not-has_place.false in
+    let lt : c.args.place < _ = has.0 in
+    let most = has.1 in
+    let bot : c.bot_key.result ≡ key_of c.args.place Bot = omega (arith, most, c.bot_key.ensures) in
+    let server : c.server_key-key.result ≡ key_of c.args.place Server = omega (arith, most, c.server_key-key.ensures) in
+    rw c.put_arrival.ensures.same
+    (accept_then _ _ _ c.args.place _ _ lt bot server c.next_bot-next.ensures.table c.new-arrival.ensures.table)
 
 pub returns-in-Err-clause-made : goal.returns-in-Err-clause-made
 returns-in-Err-clause-made g c =
     rw c.tell_of_declined.ensures
-    (λ room few due. record {
+    (λ lt free few due. record {
       mid = c.next_bot-next.new.poller.network;
       accepts = c.next_bot-next.ensures.once (rw c.await_bots.ensures due) (rw c.await_bots.ensures few);
       count = 0;
@@ -46,14 +55,14 @@ returns-in-Err-clause-made g c =
     })
 
 pub returns-clause-made : goal.returns-clause-made
-returns-clause-made g c = λ room few due. record {
+returns-clause-made g c = λ lt free few due. rw c.put_arrival.ensures.same (record {
   mid = c.next_bot-next.new.poller.network;
   accepts = c.next_bot-next.ensures.once (rw c.await_bots.ensures due) (rw c.await_bots.ensures few);
   count = c.new-arrival.result.tried;
   connects = c.new-arrival.ensures.calls;
-}
+})
 
 pub returns-in-Err-clause-kept : goal.returns-in-Err-clause-kept
 returns-in-Err-clause-kept g c =
     rw c.tell_of_declined.ensures
-    (λ room few due places. c.in-Err.ensures.kept (rw c.await_bots.ensures few) (rw c.await_bots.ensures due) places)
+    (λ lt free few due places. c.in-Err.ensures.kept (rw c.await_bots.ensures few) (rw c.await_bots.ensures due) places)

@@ -1,0 +1,244 @@
+-- A poll of a run: the places are polled, closing streams advance, and the control socket does.
+use Rattle.std.proofs.Common.{◌≡◌, ℕ, zero, suc, ◌+◌, ◌*◌, ◌≤◌, ◌<◌, Bool, true, false, List, [], ◌∷◌, ◌++◌, length, refl, sym, ap, ◌∙◌, subst, arith}
+use Rattle.std.proofs.Common.{Option, Some, None}
+use Rattle.std.specs.Prelude.{slice_get, nat_lt}
+use Rattle.std.specs.declared.time.Duration.{Duration}
+use Rattle.std.specs.declared.time.Instant.{Instant}
+use Rattle.daide_frame.specs.declared.side.Side.{Side}
+use Rattle.daide_frame.specs.declared.side.Side.TheVariants.{Bot, Server}
+use Rattle.daide_io.specs.Network.{NetworkCall}
+use Rattle.daide_io.specs.ReadyQueue.{is_among, occurrences_of, is_same, one_if}
+use Rattle.daide_io.specs.declared.network.SocketEvent.{SocketEvent}
+use Rattle.daide_sockets.specs.Control.{has_control_work, control_due}
+use Rattle.daide_sockets.specs.ControlSlots.{IsControlRow, has_free, may_accept_control, places, watching_control, watching_listener, watching_places}
+use Rattle.daide_sockets.specs.KeptRows.{ChangesRows}
+use Rattle.daide_sockets.specs.Rows.{AreRowsOf, KeepsClosingRows, taken_at}
+use Rattle.daide_sockets.specs.Table.{Table, IsPollTime, PollsOnce, changed, deadline_at, deadline_in, first_closing, key_of, latest, listener_key}
+use Rattle.daide_sockets.specs.Table.{merged, report_at, report_of, row_at, unwatched, watching, with_event, with_events}
+use Rattle.daide_sockets.specs.Times.{is_past}
+use Rattle.daide_sockets.specs.InTime.{watching_all}
+use Rattle.daide_sockets.specs.Wakeups.{GoesUnpolled, KeepsPlace, PollsForPlaces, PollsPlaces}
+use Rattle.daide_sockets.specs.declared.control.Control.{Control}
+use Rattle.daide_sockets.specs.declared.control.ControlListener.{ControlListener}
+use Rattle.daide_sockets.specs.declared.control_connection.ControlConnection.{ControlConnection}
+use Rattle.daide_sockets.specs.declared.table.Row.{Row}
+use Rattle.daide_io.proofs.ReadyLemmas.{same_is_one}
+use Rattle.daide_sockets.proofs.KeptRowLemmas.{holds_rows, same_holds}
+
+-- ---- what is watched changes nothing else
+
+-- nothing changed but what is watched
+abbrev pub IsWatched : Table → Table → Type 0
+IsWatched old new = new ≡ record old { watched_work = new.watched_work; watched_due = new.watched_due }
+
+watched_then : (old mid new : Table) → IsWatched old mid → IsWatched mid new → IsWatched old new
+watched_then old mid new h k =
+    k ∙ ap (λ (t : Table). record t { watched_work = new.watched_work; watched_due = new.watched_due }) h
+
+pub watched_all : (table : Table) (others : List (Bool × Option Instant)) → IsWatched table (watching_all table others)
+watched_all table [] = refl
+watched_all table (one ∷ others) =
+    watched_then table (watching table one.0 one.1) (watching_all (watching table one.0 one.1) others) refl
+    (watched_all (watching table one.0 one.1) others)
+
+watched_places : {S : Type 0} (table : Table) (rest : List (Option (ControlConnection S))) → IsWatched table (watching_places table rest)
+watched_places table [] = refl
+watched_places table (None ∷ rest) = watched_places table rest
+watched_places table (Some connection ∷ rest) =
+    let next = watching table (has_control_work connection) (control_due connection) in
+    watched_then table next (watching_places next rest) refl (watched_places next rest)
+
+watched_listener : (table : Table) (has_room : Bool) (found : Option ControlListener) →
+    IsWatched table (watching_listener table has_room found)
+watched_listener table has_room None = refl
+watched_listener table true (Some listener) = refl
+watched_listener table false (Some listener) = refl
+
+pub watched_control : {S : Type 0} (table : Table) (control : Control S) → IsWatched table (watching_control table control)
+watched_control table control =
+    let first = watching_listener table (has_free (places control.slots)) control.listener in
+    watched_then table first (watching_places first (places control.slots))
+    (watched_listener table (has_free (places control.slots)) control.listener)
+    (watched_places first (places control.slots))
+
+-- ---- rows stay taken through a poll
+
+event_taken : (rows : List Row) (at key : ℕ) (row : Row) → row.is_taken ≡ (row_at rows at).is_taken →
+    (row_at (changed rows at row) key).is_taken ≡ (row_at rows key).is_taken
+event_taken [] at key row h = refl
+event_taken (first ∷ rows) zero zero row h = h
+event_taken (first ∷ rows) zero (suc key) row h = refl
+event_taken (first ∷ rows) (suc at) zero row h = refl
+event_taken (first ∷ rows) (suc at) (suc key) row h = event_taken rows at key row h
+
+events_taken : (events : List SocketEvent) (rows : List Row) (key : ℕ) →
+    (row_at (with_events rows events) key).is_taken ≡ (row_at rows key).is_taken
+events_taken [] rows key = refl
+events_taken (event ∷ events) rows key =
+    events_taken events (with_event rows event) key
+    ∙ event_taken rows event.key key (record (row_at rows event.key) { report = merged (row_at rows event.key).report (report_of event) }) refl
+
+count_changed : (rows : List Row) (at : ℕ) (row : Row) → length (changed rows at row) ≡ length rows
+count_changed [] at row = refl
+count_changed (first ∷ rows) zero row = refl
+count_changed (first ∷ rows) (suc at) row = ap suc (count_changed rows at row)
+
+events_count : (events : List SocketEvent) (rows : List Row) → length (with_events rows events) ≡ length rows
+events_count [] rows = refl
+events_count (event ∷ events) rows =
+    events_count events (with_event rows event)
+    ∙ count_changed rows event.key (record (row_at rows event.key) { report = merged (row_at rows event.key).report (report_of event) })
+
+-- ---- lists of places
+
+occurs_both : (place : ℕ) (xs ys : List ℕ) → occurrences_of place (xs ++ ys) ≡ occurrences_of place xs + occurrences_of place ys
+occurs_both place [] ys = omega arith
+occurs_both place (x ∷ xs) ys = let rest = occurs_both place xs ys in omega (arith, rest)
+
+-- a place among some is among more
+pub among_more : (place : ℕ) (xs ys : List ℕ) → is_among place xs ≡ true → is_among place (xs ++ ys) ≡ true
+among_more place xs ys h = let all = occurs_both place xs ys in grind (arith, h, all)
+
+pub among_later : (place : ℕ) (xs ys : List ℕ) → is_among place ys ≡ true → is_among place (xs ++ ys) ≡ true
+among_later place xs ys h = let all = occurs_both place xs ys in grind (arith, h, all)
+
+pub among_last : (place other : ℕ) (xs : List ℕ) → other ≡ place → is_among place (xs ++ other ∷ []) ≡ true
+among_last place other xs same =
+    let all = occurs_both place xs (other ∷ []) in
+    let one = same_is_one place in
+    let own : is_same other place ≡ is_same place place = ap (λ (k : ℕ). is_same k place) same in
+    grind (arith, all, one, own)
+
+module _ {N C S : Type 0} (transition : N → NetworkCall C → N → Type 0) (time : Option Duration) (woken more : List ℕ)
+    (network polled_network new_network : N) (before watched polled first second third last : Table) (given left : List ℕ)
+    (control : Control S) (is_watched : IsWatched before watched)
+    (polls : PollsPlaces transition time woken network watched polled_network polled) (forgets : first ≡ unwatched polled)
+    (advances : KeepsClosingRows first given second left) (orders : ChangesRows (IsControlRow second) second third)
+    (watches : last ≡ watching_control third control) (rows : AreRowsOf before given) where
+  news : List SocketEvent
+  news = polls.polls.news
+
+  -- what the poll reported, in the table before it
+  reported : Table
+  reported = record before {
+    reading = latest before.reading polls.polls.reading;
+    rows = with_events before.rows news;
+  }
+
+  same_watched : watched ≡ record before { watched_work = watched.watched_work; watched_due = watched.watched_due }
+  same_watched = is_watched
+
+  polled_is : polled ≡ record polls.reported { deadlines = polled.deadlines; due = polled.due }
+  polled_is = polls.same
+
+  reported_rows : polls.reported.rows ≡ with_events before.rows news
+  reported_rows = ap (λ (t : Table). t.rows) polls.polls.table
+      ∙ ap (λ (t : Table). with_events t.rows news) same_watched
+
+  reported_reading : polls.reported.reading ≡ latest before.reading polls.polls.reading
+  reported_reading = ap (λ (t : Table). t.reading) polls.polls.table
+      ∙ ap (λ (t : Table). latest t.reading polls.polls.reading) same_watched
+
+  first_rows : first.rows ≡ with_events before.rows news
+  first_rows = ap (λ (t : Table). t.rows) forgets ∙ ap (λ (t : Table). t.rows) polled_is ∙ reported_rows
+
+  first_deadlines : first.deadlines ≡ polled.deadlines
+  first_deadlines = ap (λ (t : Table). t.deadlines) forgets
+
+  last_rows : last.rows ≡ third.rows
+  last_rows = ap (λ (t : Table). t.rows) (watches ∙ watched_control third control)
+
+  last_deadlines : last.deadlines ≡ polled.deadlines
+  last_deadlines = ap (λ (t : Table). t.deadlines) (watches ∙ watched_control third control)
+      ∙ ap (λ (t : Table). t.deadlines) orders.same ∙ ap (λ (t : Table). t.deadlines) advances.same ∙ first_deadlines
+
+  last_reading : last.reading ≡ polled.reading
+  last_reading = ap (λ (t : Table). t.reading) (watches ∙ watched_control third control)
+      ∙ ap (λ (t : Table). t.reading) orders.same ∙ ap (λ (t : Table). t.reading) advances.same
+      ∙ ap (λ (t : Table). t.reading) forgets
+
+  watched_deadlines : watched.deadlines ≡ before.deadlines
+  watched_deadlines = ap (λ (t : Table). t.deadlines) same_watched
+
+  count : length polled.deadlines ≡ length before.deadlines
+  count = polls.places ∙ ap length watched_deadlines
+
+  second_count : length second.deadlines ≡ length before.deadlines
+  second_count = ap (λ (t : Table). length t.deadlines) advances.same ∙ ap length first_deadlines ∙ count
+
+  first_holds : AreRowsOf first given
+  first_holds = same_holds before first given (ap length first_deadlines ∙ count)
+      (ap length first_rows ∙ events_count news before.rows)
+      (λ key. ap (λ (r : List Row). (row_at r key).is_taken) first_rows ∙ events_taken news before.rows key) rows
+
+  -- each taken row stays that of one closing stream
+  pub holds : AreRowsOf last left
+  holds = same_holds third last left
+      (ap length last_deadlines ∙ sym (ap (λ (t : Table). length t.deadlines) orders.same
+      ∙ ap (λ (t : Table). length t.deadlines) advances.same ∙ ap length first_deadlines))
+      (ap length last_rows) (λ key. ap (λ (r : List Row). (row_at r key).is_taken) last_rows)
+      (holds_rows (IsControlRow second) second third left (λ key own. own.1) orders (advances.taken first_holds))
+
+  -- a row up to the listener's keeps what was reported
+  row_kept : (key : ℕ) → key ≤ listener_key before → row_at last.rows key ≡ row_at (with_events before.rows news) key
+  row_kept key le =
+      let below : key < first_closing first = let same = ap length first_deadlines ∙ count in omega (arith, le, same) in
+      ap (λ (r : List Row). row_at r key) last_rows
+      ∙ orders.others key (λ own. absurd (let lt = own.0 in let same = second_count in omega (arith, lt, le, same)))
+      ∙ advances.others first_holds key below ∙ ap (λ (r : List Row). row_at r key) first_rows
+
+  polled_rows : polled.rows ≡ with_events before.rows news
+  polled_rows = ap (λ (t : Table). t.rows) polled_is ∙ reported_rows
+
+  place_key : (place : ℕ) (side : Side) → place < length before.deadlines → key_of place side ≤ listener_key before
+  place_key place Bot lt = omega (arith, lt)
+  place_key place Server lt = omega (arith, lt)
+
+  report_kept : (place : ℕ) (side : Side) → place < length before.deadlines →
+      report_at last (key_of place side) ≡ report_at polled (key_of place side)
+  report_kept place side lt =
+      ap (λ (r : Row). r.report) (row_kept (key_of place side) (place_key place side lt)
+      ∙ sym (ap (λ (r : List Row). row_at r (key_of place side)) polled_rows))
+
+  deadline_kept : (place : ℕ) → deadline_at last place ≡ deadline_at polled place
+  deadline_kept place = ap (λ (d : List (Option Instant)). deadline_in (slice_get d place)) last_deadlines
+
+  first_not : (place : ℕ) → is_among place (woken ++ more) ≡ false → is_among place woken ≡ false
+  first_not place none =
+      let all = occurs_both place woken more in
+      grind (arith, none, all)
+
+  pub polls_for_places : (others : List (Bool × Option Instant)) (may_block : Bool) →
+      IsPollTime may_block (watching_all before others) time → GoesUnpolled transition polled_network new_network →
+      PollsForPlaces transition others may_block (woken ++ more) network before new_network last
+  polls_for_places others may_block lasts goes = record {
+    time = time;
+    polled = polled_network;
+    reported = reported;
+    lasts = lasts;
+    polls = record {
+      news = news;
+      polled = polls.polls.polled;
+      reading = polls.polls.reading;
+      polls = polls.polls.polls;
+      reads = polls.polls.reads;
+      table = refl;
+    };
+    goes_on = goes;
+    reading = last_reading ∙ ap (λ (t : Table). t.reading) polled_is ∙ reported_reading;
+    reports = λ key le. ap (λ (r : Row). r.report) (row_kept key le);
+    asleep = λ place lt none.
+        let lt_watched : place < length watched.deadlines = let same = ap length watched_deadlines in omega (arith, lt, same) in
+        let asleep = polls.asleep place lt_watched (first_not place none) in (
+          record {
+            reports = λ side. report_kept place side lt ∙ asleep.0.reports side
+                ∙ ap (λ (t : Table). report_at t (key_of place side)) same_watched;
+            deadline = deadline_kept place ∙ asleep.0.deadline ∙ ap (λ (t : Table). deadline_at t place) same_watched;
+          },
+          ap (λ (d : Option Instant). is_past last.reading d) (deadline_kept place)
+          ∙ ap (λ (r : Option Instant). is_past r (deadline_at polled place)) last_reading ∙ asleep.1,
+        );
+  }
+
+  pub same_places : length last.deadlines ≡ length before.deadlines
+  same_places = ap length last_deadlines ∙ count
