@@ -24,7 +24,7 @@ use Rattle.daide_event_loop.specs.Served.{IsServed}
 use Rattle.daide_sockets.specs.declared.socket.Socket.{Socket}
 use Rattle.daide_sockets.specs.InTime.{IsAtMost}
 use Rattle.daide_sockets.specs.Sockets.{due_after}
-use Rattle.daide_sockets.specs.Table.{Table, IsNoTime}
+use Rattle.daide_sockets.specs.Table.{Table}
 use Rattle.daide_sockets.specs.Scheduling.{RunState, Schedules}
 use Rattle.daide_sockets.specs.Timers.{SessionTimers, is_got}
 use Rattle.daide_sockets.specs.Times.{IsSeconds, IsIdleTime, is_past}
@@ -145,9 +145,9 @@ module _ {P S : Type 0} (transition : P → PortCall → P → Type 0) (timers :
 
   -- ---- a poll
 
-  -- The network is polled once, for the time of a poll that watches others beside the places. If it may block, then for no time,
-  -- or else each session, while the clock goes on, has a deadline, by the timeouts of the settings. Each session that rests
-  -- while its deadline is past at the reading of this poll is woken.
+  -- The network is polled once, for the time of a poll that watches others beside the places. If it may block, each
+  -- session, while the clock goes on, has a deadline, by the timeouts of the settings. Each session that rests while its
+  -- deadline is past at the reading of this poll is woken.
   pub record PollsByDeadlines {N C : Type 0} (network : N → NetworkCall C → N → Type 0) (settings : Settings)
       (calls : List (SystemCall P)) (run : ServiceView P) (may_block : Bool) (woken : List ℕ) (old new : N × Table) : Type 0 where
     pub idle : Duration
@@ -156,8 +156,8 @@ module _ {P S : Type 0} (transition : P → PortCall → P → Type 0) (timers :
     pub stall_lasts : IsSeconds settings.stall_seconds stall
     pub others : List (Bool × Option Instant)
     pub polls : PollsForPlaces network others may_block woken old.0 old.1 new.0 new.1
-    pub deadlines : may_block ≡ true → IsNoTime polls.time ⊎ ((place : ℕ) → IfHeldAt run.slab.places place
-        (λ held. IsTimed settings calls idle stall held → HasDeadline idle stall old.1 polls.time (timers held.1.ports)))
+    pub deadlines : may_block ≡ true → (place : ℕ) → IfHeldAt run.slab.places place (λ held.
+        IsTimed settings calls idle stall held → HasDeadline idle stall old.1 polls.time (timers held.1.ports))
     pub late : (place : ℕ) → is_queued run.ready place ≡ false → IfHeldAt run.slab.places place (λ held.
         is_past new.1.reading (session_due (timers held.1.ports).sockets) ≡ true → is_among place woken ≡ true)
 

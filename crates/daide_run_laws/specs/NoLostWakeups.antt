@@ -1,5 +1,5 @@
 -- No wake-up is lost: what each session of a run over sockets waits for while a poll may block. (own)
-use Rattle.std.specs.Prelude.{◌≡◌, ◌⊎◌, ℕ, suc, ◌-◌, ◌<◌, Bool, true, false, List, [], ◌∷◌, length, Option, Some}
+use Rattle.std.specs.Prelude.{◌≡◌, ℕ, suc, ◌-◌, ◌<◌, Bool, true, false, List, [], ◌∷◌, length, Option, Some}
 use Rattle.std.specs.Time.{instant_nanos}
 use Rattle.std.specs.declared.time.Duration.{Duration}
 use Rattle.std.specs.declared.time.Instant.{Instant}
@@ -21,7 +21,7 @@ use Rattle.daide_sockets.specs.declared.socket.Socket.{Socket}
 use Rattle.daide_sockets.specs.InTime.{IsAtMost}
 use Rattle.daide_sockets.specs.Lingering.{IsWriting}
 use Rattle.daide_sockets.specs.Scheduling.{RunState, Schedules, AwaitsBots}
-use Rattle.daide_sockets.specs.Table.{Table, IsNoTime, is_reported_at, key_of}
+use Rattle.daide_sockets.specs.Table.{Table, is_reported_at, key_of}
 use Rattle.daide_sockets.specs.Timers.{SessionTimers}
 use Rattle.daide_sockets.specs.Wakeups.{SessionSockets, Wakes, PollsForPlaces, session_due}
 
@@ -44,14 +44,12 @@ pub record Sleeps {S : Type 0} (table : Table) (time : Option Duration) (place :
   pub in_time : (now due : Instant) → table.reading ≡ Some now → session_due sockets ≡ Some due →
       IsAtMost time (instant_nanos due - instant_nanos now)
 
--- The network is polled once, for the time of a poll that watches others beside the places. For no time, or else each
--- session sleeps.
+-- The network is polled once, for the time of a poll that watches others beside the places. Each session sleeps.
 pub record PollsAsleep {P S N C : Type 0} (transition : N → NetworkCall C → N → Type 0) (view : P → SessionSockets S)
     (places : List (SlabPlace (SessionView × QuotaPortsView P))) (woken : List ℕ) (old new : N × Table) : Type 0 where
   pub others : List (Bool × Option Instant)
   pub polls : PollsForPlaces transition others true woken old.0 old.1 new.0 new.1
-  pub asleep : IsNoTime polls.time ⊎ ((place : ℕ) → IfHeldAt places place
-      (λ held. Sleeps old.1 polls.time place held.0 (view held.1.ports)))
+  pub asleep : (place : ℕ) → IfHeldAt places place (λ held. Sleeps old.1 polls.time place held.0 (view held.1.ports))
 
 -- Each poll of a run over sockets that may block polls asleep. A table has a deadline for each place. `view` is the content
 -- of ports.
