@@ -150,7 +150,7 @@ pub no_wakeup_lost : {P S N C : Type 0} (port_transition : P → PortCall → P 
     (calls : S → Option (List StreamCall)) (transition : N → NetworkCall C → N → Type 0) → PortsSettle port_transition view →
     NoWakeupIsLost port_transition view calls transition
 no_wakeup_lost port_transition view calls transition settles =
-    λ settings n before others woken orders run next first old new rounds ongoing round places trace poll.
+    λ settings n before others woken orders run next first old new rounds round places trace poll.
     record {
       others = poll.1.0;
       polls = poll.1.1;

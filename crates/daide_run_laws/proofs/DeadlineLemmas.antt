@@ -165,7 +165,7 @@ module _ {P S : Type 0} (port_transition : P → PortCall → P → Type 0) (tim
   pub no_session_waits : {N C : Type 0} (calls : S → Option (List StreamCall)) (network : N → NetworkCall C → N → Type 0) →
       NoSessionWaitsForEver port_transition timers calls network
   no_session_waits calls network = λ settings n before others may_block woken orders run next first old new begun last idles stalls
-      times rounds ongoing round places sessions trace poll.
+      times rounds round places sessions trace poll.
       let view : P → SessionSockets S = λ ports. (timers ports).sockets in
       let one = set_time settings.idle_seconds begun.times.0 times.0 idles in
       let other = set_time settings.stall_seconds begun.times.1 times.1 stalls in

@@ -1,10 +1,11 @@
 pub mod TurnSettled
 pub mod RecordedPorts
-pub mod Watched
+pub mod RestLemmas
 pub mod AsleepLemmas
 pub mod AwaitedLemmas
 pub mod TimedSessions
 pub mod BegunSessions
+pub mod OpenSessions
 pub mod Deadlines
 pub mod DeadlineLemmas
 pub mod OverdueLemmas
@@ -12,4 +13,3 @@ pub mod StayLemmas
 pub mod RoomLemmas
 pub mod FinishTimeLemmas
 mod LawFacts
-pub mod RestLemmas

@@ -19,7 +19,7 @@ use Rattle.daide_io.specs.declared.system.Orders.{Orders}
 use Rattle.daide_driver.specs.Slab.{IfHeldAt}
 use Rattle.daide_settings.specs.declared.settings.Settings.{Settings}
 use Rattle.daide_event_loop.specs.QuotaPorts.{QuotaPortsView, Meters}
-use Rattle.daide_event_loop.specs.Serving.{ServiceView, Round, Rounds, initial_service, is_done, fresh}
+use Rattle.daide_event_loop.specs.Serving.{ServiceView, Round, Rounds, initial_service, fresh}
 use Rattle.daide_event_loop.specs.Served.{IsServed}
 use Rattle.daide_sockets.specs.declared.socket.Socket.{Socket}
 use Rattle.daide_sockets.specs.InTime.{IsAtMost}
@@ -167,7 +167,7 @@ module _ {P S : Type 0} (transition : P → PortCall → P → Type 0) (timers :
   NoSessionWaitsForEver {N} calls network = (settings : Settings) (n : ℕ) (before others : List (SystemCall P))
       (may_block : Bool) (woken : List ℕ) (orders : Orders) (run next : ServiceView P) (first old new : N × Table)
       (begun last : RunState N S) → settings.idle_seconds ≢ 0 → settings.stall_seconds ≢ 0 → AreTimesOf settings begun.times →
-      Rounds transition n (initial_service settings) before run → is_done run ≡ false →
+      Rounds transition n (initial_service settings) before run →
       Round transition run (Polls may_block woken orders ∷ others) next → length first.1.deadlines ≡ settings.max_sessions →
       TransitsBy (Schedules network timers) begun before last →
       TransitsBy (Wakes network calls (λ ports. (timers ports).sockets)) first before old →

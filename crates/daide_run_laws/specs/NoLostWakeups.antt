@@ -15,7 +15,7 @@ use Rattle.daide_driver.specs.declared.place.SlabPlace.TheVariants.{Free}
 use Rattle.daide_driver.specs.Slab.{IfHeldAt, IsAt}
 use Rattle.daide_settings.specs.declared.settings.Settings.{Settings}
 use Rattle.daide_event_loop.specs.QuotaPorts.{QuotaPortsView}
-use Rattle.daide_event_loop.specs.Serving.{ServiceView, Round, Rounds, initial_service, is_done, have_all_come}
+use Rattle.daide_event_loop.specs.Serving.{ServiceView, Round, Rounds, initial_service, have_all_come}
 use Rattle.daide_buffered_io.specs.Streams.{stream_of}
 use Rattle.daide_sockets.specs.declared.socket.Socket.{Socket}
 use Rattle.daide_sockets.specs.InTime.{IsAtMost}
@@ -57,7 +57,7 @@ abbrev pub NoWakeupIsLost : {P S N C : Type 0} → (P → PortCall → P → Typ
     (S → Option (List StreamCall)) → (N → NetworkCall C → N → Type 0) → Type 0
 NoWakeupIsLost {P} {S} {N} port_transition view calls transition = (settings : Settings) (n : ℕ)
     (before others : List (SystemCall P)) (woken : List ℕ) (orders : Orders) (run next : ServiceView P)
-    (first old new : N × Table) → Rounds port_transition n (initial_service settings) before run → is_done run ≡ false →
+    (first old new : N × Table) → Rounds port_transition n (initial_service settings) before run →
     Round port_transition run (Polls true woken orders ∷ others) next → length first.1.deadlines ≡ settings.max_sessions →
     TransitsBy (Wakes transition calls view) first before old → Wakes transition calls view old (Polls true woken orders) new →
     PollsAsleep transition view run.slab.places woken old new

@@ -12,11 +12,10 @@ use daide_io::ports::Ports;
 use daide_log::{Recording, Sink};
 use daide_sockets::ports::SocketPorts;
 
-/// No wake-up is lost. At each poll of a run over sockets that may block the network is polled once, and what it reports is in
-/// the rows. Unless it is polled for no time at all, each session sleeps (`Sleeps`): polls reported nothing of its sockets that
-/// was not taken. From each side for whose bytes it has room, its socket is not readable, and nothing was read ahead. To each
-/// side for which bytes are queued or buffered, its socket is not writable. The poll ends by the nearest deadline of the
-/// session.
+/// No wake-up is lost. At each poll of a run over sockets that may block the network is polled once, and what it reports is
+/// in the rows. Each session sleeps (`Sleeps`): polls reported nothing of its sockets that was not taken. From each side
+/// for whose bytes it has room, its socket is not readable, and nothing was read ahead. To each side for which bytes are
+/// queued or buffered, its socket is not writable. The poll ends by the nearest deadline of the session.
 ///
 /// The ports are those that ship, over any two streams, and `N` is the network. The calls of the run have their effect on
 /// it and on the table as the sockets' own `transition` says (`Wakes`).
@@ -55,10 +54,10 @@ pub fn no_bot_waits_beside_records<S: Duplex + Drop, N: Network, W: Sink + Drop>
         N.transition }
 {}
 
-/// The sockets have room for each bot that the loop may accept. Take a run over sockets with no bot yet, any number of rounds,
-/// and one more that accepts. No connect is pending at the place that the loop chose, and a number is left for the bot
-/// (`HasRoomForBot`). So exactly one accept is made whenever it is due, and then only connects for its bot
-/// (`AcceptsThenConnects`). The rows of both sockets are those of the place.
+/// The sockets have room for each bot that the loop may accept. Take a run over sockets with no bot yet, whose closing
+/// streams have rows of their own, any number of rounds, and one more that accepts. No connect is pending at the place that
+/// the loop chose, and a number is left for the bot (`HasRoomForBot`). So exactly one accept is made whenever it is due,
+/// and then only connects for its bot (`AcceptsThenConnects`). The rows of both sockets are those of the place.
 ///
 /// A run has at most 2^32 - 1 bots.
 pub fn each_bot_has_room<S: Duplex + Drop, N: Network>()
@@ -72,12 +71,12 @@ pub fn each_bot_has_room_beside_records<S: Duplex + Drop, N: Network, W: Sink + 
         S.calls (λ ports. ports.ports) }
 {}
 
-/// No session waits for ever. Take a run over sockets whose settings have an idle timeout and a stall timeout, and a session
-/// of it. Its clock goes on: the session begins at a reading, and each of its turns at a reading that is not before the one
-/// of the turn before (`ClockGoesOn`). At each poll of the run that may block, and is not for no time at all, the session has a
-/// nearest deadline. It is at most the longer of the two timeouts after the reading of its last turn, and the poll ends by it
-/// (`HasDeadline`). A session at rest whose deadline is past at the reading of a poll, which may block or not, is woken by the
-/// poll, and so has a turn after as many rounds as `ready_places_advance` says. What its peers do is in no premise.
+/// No session waits for ever. Take a run over sockets whose settings have an idle timeout and a stall timeout, and a
+/// session of it. Its clock goes on: the session begins at a reading, and each of its turns at a reading that is not before
+/// the one of the turn before (`ClockGoesOn`). At each poll of the run that may block the session has a nearest deadline.
+/// It is at most the longer of the two timeouts after the reading of its last turn, and the poll ends by it
+/// (`HasDeadline`). A session at rest whose deadline is past at the reading of a poll, which may block or not, is woken by
+/// the poll, and so has a turn after as many rounds as `ready_places_advance` says. What its peers do is in no premise.
 ///
 /// The calls of the run have their effect on the network and the table (`Wakes`), and schedule (`Schedules`), as the sockets'
 /// own `transition` says: so each session began with the timeouts of the run, which are those of the settings
