@@ -30,7 +30,7 @@ use Rattle.daide_sockets.specs.Times.{is_past}
 use Rattle.daide_sockets.specs.Scheduling.{RunState, Schedules, AwaitsBots, RunEvolves, HasRoomForBot, HoldsRows}
 use Rattle.daide_sockets.specs.Timers.{SessionTimers}
 use Rattle.daide_sockets.specs.Wakeups.{SessionSockets, Wakes, session_due}
-use Rattle.daide_run_laws.specs.FreedPlaces.{AreTimesOf, ClockGoesOn, IsTimed, HasDeadline, PollsByDeadlines, deliveries}
+use Rattle.daide_run_laws.specs.FreedPlaces.{AreTimesOf, ClockGoesOn, IsTimed, PollsByDeadlines, deliveries}
 use Rattle.daide_run_laws.specs.FreedPlaces.{overdue_turns, CameFrom, IsQuietFor, NoSessionWaitsForEver, TimeoutsStay, DeadlinesPassSeldom}
 use Rattle.daide_run_laws.specs.NoLostWakeups.{Sleeps, PollsAsleep, NoWakeupIsLost, NoBotWaits}
 use Rattle.daide_run_laws.specs.Room.{EachBotHasRoom}

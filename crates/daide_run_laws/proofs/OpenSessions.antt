@@ -13,15 +13,12 @@ use Rattle.daide_driver.specs.declared.place.SlabPlace.TheVariants.{Free, Kept, 
 use Rattle.daide_driver.specs.Slab.{SlabView, IsAt, IfHeldAt, all_free, with_place}
 use Rattle.daide_event_loop.specs.QuotaPorts.{QuotaPortsView}
 use Rattle.daide_event_loop.specs.Serving.{ServiceView, fresh, LeavesVisit, TurnsAndLeaves, MeetsBy, VisitsBy, Visits, queued_again}
-use Rattle.daide_event_loop.specs.Serving.{Admits, accepted_at, polled, Round, Rounds, initial_service}
+use Rattle.daide_event_loop.specs.Serving.{Admits, accepted_at, polled, Rounds, initial_service}
 use Rattle.daide_event_loop.proofs.BeginningLemmas.{get_set}
-use Rattle.daide_event_loop.proofs.ServedLemmas.{ChangesOnlyAt, same_there, one_there, there_then, held_here, turns_there_only}
+use Rattle.daide_event_loop.proofs.ServedLemmas.{ChangesOnlyAt, same_there, one_there, held_here, turns_there_only}
 
 module _ {P : Type 0} where
-  abbrev Place : Type 0
-  Place = SessionView × QuotaPortsView P
-
-  abbrev IsOpen : ℕ → Place → Type 0
+  abbrev IsOpen : ℕ → SessionView × QuotaPortsView P → Type 0
   IsOpen place held = is_closed held.0 ≡ false
 
   abbrev AllOpen : SlabView (QuotaPortsView P) → Type 0
@@ -46,8 +43,8 @@ module _ {P : Type 0} where
   others_stay place old new only others = λ other apart held at. others other apart held (sym (only.beside other apart) ∙ at)
 
   -- something that is no session is put at a place
-  put_open : (old : SlabView (QuotaPortsView P)) (place : ℕ) (was now : SlabPlace Place) (new : SlabView (QuotaPortsView P)) →
-      IsAt old place was → new ≡ with_place old place now → ((held : Place) → now ≡ Held held → IsOpen place held) →
+  put_open : (old : SlabView (QuotaPortsView P)) (place : ℕ) (was now : SlabPlace (SessionView × QuotaPortsView P)) (new : SlabView (QuotaPortsView P)) →
+      IsAt old place was → new ≡ with_place old place now → ((held : SessionView × QuotaPortsView P) → now ≡ Held held → IsOpen place held) →
       AllOthersOpen place old → AllOpen new
   put_open old place was now new at e here others =
       all_open place old new (one_there place old new now e) others
@@ -55,7 +52,7 @@ module _ {P : Type 0} where
       (let own : slice_get new.places place ≡ Some now =
       ap (λ (s : SlabView (QuotaPortsView P)). slice_get s.places place) e ∙ get_set old.places place now was at in cc))
 
-  leaves_open : (closed : Bool) (now : Place) (old : ServiceView P) (place : ℕ) (answers : List (SystemCall P)) (new : ServiceView P) →
+  leaves_open : (closed : Bool) (now : SessionView × QuotaPortsView P) (old : ServiceView P) (place : ℕ) (answers : List (SystemCall P)) (new : ServiceView P) →
       IsAt old.slab place (Held now) → is_closed now.0 ≡ closed → LeavesVisit closed now old place answers new →
       AllOthersOpen place old.slab → AllOpen new.slab
   leaves_open true now old place answers new at e h others =
@@ -80,17 +77,17 @@ module _ {P : Type 0} (port_transition : P → PortCall → P → Type 0) where
       (others_stay place old.slab h.turned (turns_there_only port_transition turns old.slab place h.turning h.turned h.takes.made) others)
 
   same_open : (old new : ServiceView P) → new ≡ old → AllOpen old.slab → AllOpen new.slab
-  same_open old new e open = subst (λ (s : ServiceView P). AllOpen s.slab) (sym e) open
+  same_open old new e each = subst (λ (s : ServiceView P). AllOpen s.slab) (sym e) each
 
-  visit_open : (at : Option (SlabPlace Place)) (old : ServiceView P) (place turns : ℕ) (answers : List (SystemCall P))
+  visit_open : (at : Option (SlabPlace (SessionView × QuotaPortsView P))) (old : ServiceView P) (place turns : ℕ) (answers : List (SystemCall P))
       (new : ServiceView P) → slice_get old.slab.places place ≡ at → VisitsBy port_transition at old place turns answers new →
       AllOpen old.slab → AllOpen new.slab
-  visit_open None old place turns answers new there h open = same_open old new h.2 open
-  visit_open (Some Free) old place turns answers new there h open = same_open old new h.2 open
-  visit_open (Some Kept) old place turns answers new there h open = by h.0 h.1 h.3
+  visit_open None old place turns answers new there h each = same_open old new h.2 each
+  visit_open (Some Free) old place turns answers new there h each = same_open old new h.2 each
+  visit_open (Some Kept) old place turns answers new there h each = by h.0 h.1 h.3
     where
       others : AllOthersOpen place old.slab
-      others = λ other apart. open other
+      others = λ other apart. each other
 
       by : (connect : Connect P) (told : List (SystemCall P)) → MeetsBy port_transition connect old place turns told new →
           AllOpen new.slab
@@ -99,29 +96,29 @@ module _ {P : Type 0} (port_transition : P → PortCall → P → Type 0) where
           (others_stay place old.slab m.0 (one_there place old.slab m.0 (Held (m.1.0, fresh ports old.counters.turns)) m.1.2) others)
       by Failed told m =
           put_open old.slab place Kept Free new.slab there (ap (λ (s : ServiceView P). s.slab) m.2) (λ held is. absurd (cc)) others
-      by Pending told m = same_open old new m.2 open
-  visit_open (Some (Held now)) old place turns answers new there h open =
-      given_open old place turns answers new h (λ other apart. open other)
+      by Pending told m = same_open old new m.2 each
+  visit_open (Some (Held now)) old place turns answers new there h each =
+      given_open old place turns answers new h (λ other apart. each other)
 
   visits_open : (visited : List ℕ) (turns : ℕ) (old : ServiceView P) (answers : List (SystemCall P)) (new : ServiceView P) →
       Visits port_transition visited turns old answers new → AllOpen old.slab → AllOpen new.slab
-  visits_open [] turns old answers new h open = same_open old new h.2 open
-  visits_open (place ∷ earlier) turns old answers new h open =
+  visits_open [] turns old answers new h each = same_open old new h.2 each
+  visits_open (place ∷ earlier) turns old answers new h each =
       visit_open (slice_get h.0.slab.places place) (record h.0 { ready = h.8.ready }) place h.2 h.4 new refl h.8.visits
-      (visits_open earlier h.1 old h.3 h.0 h.7 open)
+      (visits_open earlier h.1 old h.3 h.0 h.7 each)
 
   admits_open : (old : ServiceView P) (answers : List (SystemCall P)) (new : ServiceView P) → Admits old answers new →
       AllOpen old.slab → AllOpen new.slab
-  admits_open old answers new (inr none) open = same_open old new none.2 open
-  admits_open old answers new (inl asks) open = subst (λ (s : ServiceView P). AllOpen s.slab) (sym asks.then_kept) (by asks.came)
+  admits_open old answers new (inr none) each = same_open old new none.2 each
+  admits_open old answers new (inl asks) each = subst (λ (s : ServiceView P). AllOpen s.slab) (sym asks.then_kept) (by asks.came)
     where
       by : (came : Bool) → AllOpen (if came then accepted_at old asks.place else old).slab
       by true =
           put_open old.slab asks.place Free Kept (with_place old.slab asks.place Kept) asks.free refl (λ held is. absurd (cc))
-          (λ other apart. open other)
-      by false = open
+          (λ other apart. each other)
+      by false = each
 
-  none_held : (count place : ℕ) (held : Place) → slice_get (all_free {T = Place} count) place ≡ Some (Held held) →
+  none_held : (count place : ℕ) (held : SessionView × QuotaPortsView P) → slice_get (all_free {T = SessionView × QuotaPortsView P} count) place ≡ Some (Held held) →
       is_closed held.0 ≡ false
   none_held zero zero held e = absurd (cc)
   none_held zero (suc place) held e = absurd (cc)

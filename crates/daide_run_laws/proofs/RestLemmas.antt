@@ -1,6 +1,6 @@
 -- A place that rests by the trace of a run is quiet by its table.
-use Rattle.std.proofs.Common.{◌≡◌, ◌≢◌, ℕ, zero, suc, ◌+◌, ◌*◌, ◌≤◌, ◌<◌, Bool, true, false, List, [], ◌∷◌, length, refl, sym, ap, ◌∙◌, subst, arith, eq-eqb}
-use Rattle.std.specs.Prelude.{◌||◌, ◌&&◌, not, ◌==◌, if◌then◌else◌, Option, Some, None, slice_get, slice_set}
+use Rattle.std.proofs.Common.{◌≡◌, ◌≢◌, ℕ, zero, suc, ◌<◌, Bool, true, false, List, [], ◌∷◌, length, refl, sym, ap, ◌∙◌, subst, arith, eq-eqb}
+use Rattle.std.specs.Prelude.{◌||◌, ◌&&◌, not, ◌==◌, if◌then◌else◌, Option, Some, slice_get, slice_set}
 use Rattle.std.specs.declared.time.Instant.{Instant}
 use Rattle.daide_frame.specs.declared.side.Side.{Side}
 use Rattle.daide_frame.specs.declared.side.Side.TheVariants.{Bot, Server}
@@ -11,7 +11,7 @@ use Rattle.daide_io.specs.System.{SystemCall, Polls, Shows, Accepts, Connects, B
 use Rattle.daide_io.specs.System.{TransitsBy, is_about, last_about}
 use Rattle.daide_buffered_io.specs.declared.readiness.Readiness.{Readiness}
 use Rattle.daide_sockets.specs.Sockets.{has_socket_work, is_some_byte}
-use Rattle.daide_sockets.specs.Table.{Table, Row, row_at, row_or_free, no_report, report_at, has_report, is_reported_at, key_of, deadline_at}
+use Rattle.daide_sockets.specs.Table.{Table, row_at, row_or_free, no_report, report_at, has_report, is_reported_at, key_of, deadline_at}
 use Rattle.daide_sockets.specs.Table.{AreDeadlinesBounded, deadline_in, resting, without_report, without_reports}
 use Rattle.daide_sockets.specs.Wakeups.{Wakes, RestsFor, KeepsPlace, SessionSockets, may_go_on, may_session_go_on, session_due}
 use Rattle.daide_run_laws.specs.NoLostWakeups.{socket_at}
@@ -84,7 +84,7 @@ different i j e h = absurd (let yes : (i == j) ≡ true = eq-eqb i j h in cc)
 -- another key keeps its report
 taken_other : (table : Table) (one key : ℕ) → one ≢ key → report_at (without_report table one) key ≡ report_at table key
 taken_other table one key ne =
-    ap (λ (r : Option Row). (row_or_free r).report) (set_other table.rows one key (record (row_at table.rows one) { report = no_report }) ne)
+    ap (λ r. (row_or_free r).report) (set_other table.rows one key (record (row_at table.rows one) { report = no_report }) ne)
 
 keys_differ : (one other : ℕ) (side at : Side) → one ≢ other → key_of one side ≢ key_of other at
 keys_differ one other Bot Bot ne h = ne (omega (arith, h))

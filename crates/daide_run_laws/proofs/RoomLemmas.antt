@@ -1,5 +1,5 @@
 -- The sockets have room for each bot that the loop may accept.
-use Rattle.std.proofs.Common.{◌≡◌, ◌≢◌, ◌≤◌, ◌<◌, ℕ, zero, suc, ◌+◌, Bool, true, false, List, [], ◌∷◌, ◌++◌, length, refl, sym, ap, ◌∙◌, subst, arith, inl, inr, ⊎_elim}
+use Rattle.std.proofs.Common.{◌≡◌, ◌≢◌, ◌≤◌, ◌<◌, ℕ, zero, suc, ◌+◌, Bool, true, false, List, [], ◌∷◌, ◌++◌, length, refl, sym, ap, ◌∙◌, subst, arith, inl, inr}
 use Rattle.std.specs.Prelude.{◌||◌, ◌&&◌, not, ◌==◌, All, Option, Some, None, is_none, slice_get, slice_set, if◌then◌else◌}
 use Rattle.std.proofs.lemmas.Bool.{eqb-true, eqb-false}
 use Rattle.std.proofs.lemmas.List.{append-nil, append_assoc, length-append}
@@ -15,7 +15,7 @@ use Rattle.daide_io.specs.Streams.{StreamCall}
 use Rattle.daide_io.specs.System.{SystemCall, Polls, Shows, Accepts, Connects, BeginsTurn, Rests, Retires, Notifies, TransitsBy, is_about}
 use Rattle.daide_io.specs.declared.system.Connect.{Connect}
 use Rattle.daide_io.specs.declared.system.Connect.TheVariants.{Ready, Failed, Pending}
-use Rattle.daide_io.specs.declared.system.Notice.TheVariants.{CannotReach, TurnsSpent}
+use Rattle.daide_io.specs.declared.system.Notice.TheVariants.{TurnsSpent}
 use Rattle.daide_driver.specs.declared.place.SlabPlace.{SlabPlace}
 use Rattle.daide_driver.specs.declared.place.SlabPlace.TheVariants.{Free, Kept, Held}
 use Rattle.daide_driver.specs.Slab.{SlabView, IsAt, is_at, is_kept, is_so, with_place}
@@ -23,7 +23,7 @@ use Rattle.daide_event_loop.specs.declared.admission_counters.AdmissionCounters.
 use Rattle.daide_event_loop.specs.QuotaPorts.{QuotaPortsView}
 use Rattle.daide_event_loop.specs.Served.{accept_calls, comes, sum_over_calls}
 use Rattle.daide_event_loop.specs.Serving.{ServiceView, LeavesVisit, TurnsAndLeaves, MeetsBy, VisitsBy, Visits, last_words, parting, end_of}
-use Rattle.daide_event_loop.specs.Serving.{Admits, AsksForBot, accepted_at, opening, polled, closed, heeding, have_all_come, Round, Rounds, initial_service}
+use Rattle.daide_event_loop.specs.Serving.{Admits, accepted_at, opening, polled, closed, have_all_come, Round, Rounds, initial_service}
 use Rattle.daide_event_loop.proofs.AcceptLemmas.{rounds_length, visits_places}
 use Rattle.daide_event_loop.proofs.BeginningLemmas.{get_set}
 use Rattle.daide_event_loop.proofs.CountLemmas.{counted_append, none_shown, counts_then, opening_counts, visits_counts}
@@ -32,7 +32,7 @@ use Rattle.daide_event_loop.proofs.RestingLemmas.{visit_elsewhere, visit_there}
 use Rattle.daide_event_loop.proofs.ServedLemmas.{ChangesOnlyAt, one_there, all_turns, all_rests, all_shown, rounds_serve}
 use Rattle.daide_event_loop.proofs.WaitingLemmas.{IsElsewhere}
 use Rattle.daide_sockets.specs.Pairing.{Arriving, Paired, RunSockets, StaysPendingIf, TakesOut, Transits, arrival_in, arrival_at, is_free_in, is_free_place}
-use Rattle.daide_sockets.specs.Scheduling.{RunState, RunEvolves, HoldsRows, sockets_in, pair_of}
+use Rattle.daide_sockets.specs.Scheduling.{RunState, RunEvolves, HasRoomForBot, HoldsRows, sockets_in, pair_of}
 use Rattle.daide_sockets.specs.declared.ports.SocketPorts.{SocketPorts}
 use Rattle.daide_run_laws.specs.Room.{EachBotHasRoom}
 use Rattle.daide_run_laws.proofs.RestLemmas.{set_other}
@@ -465,7 +465,7 @@ module _ {P S N C : Type 0} (port_transition : P → PortCall → P → Type 0) 
       let more = eqb-false round.mid.counters.accepted round.mid.counters.sessions asks.0 in
       let few : old.acceptor.came < 4294967295 =
       omega (arith, sum, none, same_trace, counted, accepted, sessions, more, all_few) in
-      let room = (
+      let room : HasRoomForBot old place = (
         omega (arith, inside, same_length, places),
         free_by to_give taken calls pair false place (before ++ early) (sockets_in first) (sockets_in old) sockets.1
             (λ e. free place inside) settled,
