@@ -81,7 +81,7 @@ waits_for_some limits events effects g run going =
 
 module _ {P S : Type 0} (port_transition : P → PortCall → P → Type 0) (timers : P → SessionTimers S)
     (settles : PortsSettle port_transition (λ ports. (timers ports).sockets)) (keeps : PortsSetTimers port_transition timers) where
-  -- what one session at a wait waits for, by its last turn
+  -- what a session at rest waits for, by its last turn
   one_due : (idle stall : Duration) (place : SessionView × QuotaPortsView P) → IsIdleSession port_transition place →
       ((side : Side) → (own (timers place.1.ports) side).tries_again ≡ false) →
       (t : IsTimedNow idle stall (timers place.1.ports)) → WaitsForSome place.0 →

@@ -34,8 +34,8 @@ kept : {S : Type 0} (old : Table) (place : ℕ) (new : Table) (session : Session
     IsQuiet old place session → IsQuiet new place session
 kept old place new session keeps quiet = record {
   none = ap (λ (r : Readiness). (has_report r || has_socket_work session.bot.stream session.bot.readiness session.bot.tries_again) || may_go_on new (key_of place Server) session.server) (keeps.reports Bot)
-    ∙ ap (λ (r : Readiness). may_go_on old (key_of place Bot) session.bot || (has_report r || has_socket_work session.server.stream session.server.readiness session.server.tries_again)) (keeps.reports Server)
-    ∙ quiet.none;
+      ∙ ap (λ (r : Readiness). may_go_on old (key_of place Bot) session.bot || (has_report r || has_socket_work session.server.stream session.server.readiness session.server.tries_again)) (keeps.reports Server)
+      ∙ quiet.none;
   due = keeps.deadline ∙ quiet.due;
 }
 
@@ -96,7 +96,7 @@ keys_differ one other Server Server ne h = ne (omega (arith, h))
 taken : (old : Table) (place other : ℕ) → (place == other) ≡ false → KeepsPlace old other (without_reports old place)
 taken old place other e = record {
   reports = λ side. taken_other (without_report old (key_of place Bot)) (key_of place Server) (key_of other side) (keys_differ place other Server side (different place other e))
-    ∙ taken_other old (key_of place Bot) (key_of other side) (keys_differ place other Bot side (different place other e));
+      ∙ taken_other old (key_of place Bot) (key_of other side) (keys_differ place other Bot side (different place other e));
   deadline = refl;
 }
 

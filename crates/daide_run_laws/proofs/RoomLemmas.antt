@@ -3,7 +3,7 @@ use Rattle.std.proofs.Common.{◌≡◌, ◌≢◌, ◌≤◌, ◌<◌, ℕ, zer
 use Rattle.std.specs.Prelude.{◌||◌, ◌&&◌, not, ◌==◌, All, Option, Some, None, is_none, slice_get, slice_set, if◌then◌else◌}
 use Rattle.std.proofs.lemmas.Bool.{eqb-true, eqb-false}
 use Rattle.std.proofs.lemmas.List.{append-nil, append_assoc, length-append}
-use Rattle.std.proofs.lemmas.List.Elements.{All-nil, All-cons, All-head, All-tail, All-same, All-append, All-push}
+use Rattle.std.proofs.lemmas.List.Elements.{All-nil, All-cons, All-head, All-tail, All-same, All-append, All-push, All-weaker}
 use Rattle.std.proofs.lemmas.Option.{slice_get_within}
 use Rattle.daide_frame.proofs.ListLemmas.{eqb_same}
 use Rattle.daide_protocol.specs.Wires.{SessionView, is_closed}
@@ -85,13 +85,6 @@ module _ {P : Type 0} where
   elsewhere_calm place (Rests other ports rests) e = λ was. refl
   elsewhere_calm place (Retires other ports end) e = λ was. refl
   elsewhere_calm place (Notifies notice) e = λ was. refl
-
-  all_calm : (place : ℕ) (was : Bool) (calls : List (SystemCall P)) → All (IsElsewhere place) calls →
-      pending_by place was calls ≡ was
-  all_calm place was [] h = refl
-  all_calm place was (call ∷ calls) h =
-      all_calm place (pending_after place was call) calls (All-tail (IsElsewhere place) call calls h)
-      ∙ elsewhere_calm place call (All-head (IsElsewhere place) call calls h) was
 
 -- ---- in the sockets
 
@@ -242,7 +235,8 @@ module _ {P : Type 0} (port_transition : P → PortCall → P → Type 0) where
           ∙ own (subst (λ (n : ℕ). is_at is_kept new.places n ≡ false) (sym (eqb-true place q e)) none))
       by q none false e =
           let apart = eqb-false place q e in
-          pending_then q false calls answers ∙ all_calm q (pending_by q false calls) answers (elsewhere q apart)
+          pending_then q false calls answers ∙ calm_by q (pending_by q false calls) answers
+          (All-weaker (IsElsewhere q) (IsCalm q) (elsewhere_calm q) answers (elsewhere q apart))
           ∙ settled q (ap (λ (at : Option (SlabPlace (SessionView × QuotaPortsView P))). is_so is_kept at)
           (sym (only.beside q (λ same. apart (sym same)))) ∙ none)
 
@@ -307,11 +301,11 @@ module _ {P : Type 0} (port_transition : P → PortCall → P → Type 0) where
       let opens = opening r.woken r.orders old in
       let begun : IsSettled (calls ++ opens) old.slab =
       λ place none.
-          pending_then place false calls opens
-          ∙ calm_by place (pending_by place false calls) opens
-          (All-cons (IsCalm place) (Polls _ r.woken r.orders) _ (λ was. refl)
-          (all_shown port_transition (IsCalm place) r.orders.shows_sessions old.slab.places (λ ports status was. refl)))
-          ∙ settled place none in
+      pending_then place false calls opens
+      ∙ calm_by place (pending_by place false calls) opens
+      (All-cons (IsCalm place) (Polls _ r.woken r.orders) _ (λ was. refl)
+      (all_shown port_transition (IsCalm place) r.orders.shows_sessions old.slab.places (λ ports status was. refl)))
+      ∙ settled place none in
       subst (λ (l : List (SystemCall P)). IsSettled l r.mid.slab) (append_assoc calls opens r.visiting)
       (visits_settled (calls ++ opens) r.visits.visited r.visits.turns (polled r.woken r.orders old) r.visiting r.mid r.visits.takes begun)
 
@@ -332,10 +326,10 @@ module _ {P : Type 0} (port_transition : P → PortCall → P → Type 0) where
           (one_there asks.place old.slab (with_place old.slab asks.place Kept) Kept refl)
           (λ q apart. All-cons (IsElsewhere q) (Accepts asks.place true) [] (differ asks.place q apart) (All-nil (IsElsewhere q)))
           (λ none.
-              (let own : is_at is_kept (slice_set old.slab.places asks.place Kept) asks.place ≡ true =
-              ap (λ (o : Option (SlabPlace (SessionView × QuotaPortsView P))). is_so is_kept o)
-              (get_set old.slab.places asks.place Kept Free asks.free) in
-              absurd (cc))) settled
+          (let own : is_at is_kept (slice_set old.slab.places asks.place Kept) asks.place ≡ true =
+          ap (λ (o : Option (SlabPlace (SessionView × QuotaPortsView P))). is_so is_kept o)
+          (get_set old.slab.places asks.place Kept Free asks.free) in
+          absurd (cc))) settled
         where
           differ : (one place : ℕ) → one ≢ place → (one == place) ≡ false
           differ one place apart = test (one == place) refl
