@@ -150,6 +150,16 @@ module _ {P : Type 0} (port_transition : P → PortCall → P → Type 0) where
       let kept = admitted_places h.6.mid h.6.admission run h.6.admits in
       kept.0 ∙ mid ∙ sym kept.1
 
+  -- the number of places never changes
+  pub rounds_length : (settings : Settings) (n : ℕ) (answers : List (SystemCall P)) (run : ServiceView P) →
+      Rounds port_transition n (initial_service settings) answers run → length run.slab.places ≡ settings.max_sessions
+  rounds_length settings zero answers run h =
+      ap (λ (s : ServiceView P). length s.slab.places) h.1 ∙ free_length (SessionView × QuotaPortsView P) settings.max_sessions
+  rounds_length settings (suc n) answers run h =
+      (admitted_places h.6.mid h.6.admission run h.6.admits).1
+      ∙ (visits_places h.6.visits.visited h.6.visits.turns (polled h.6.woken h.6.orders h.0) h.6.visiting h.6.mid h.6.visits.takes).1
+      ∙ rounds_length settings n h.1 h.0 h.4
+
   -- ---- a run that is idle after a round
 
   none_in : (xs : List ℕ) → (length xs == 0) ≡ true → xs ≡ []
@@ -160,7 +170,7 @@ module _ {P : Type 0} (port_transition : P → PortCall → P → Type 0) where
   both_true true other e = (refl, e)
   both_true false other e = absurd (cc)
 
-  none_queued : (run : ServiceView P) (place : ℕ) → is_queue_empty run ≡ true → occurrences_of place (queued_places run.ready) ≡ 0
+  pub none_queued : (run : ServiceView P) (place : ℕ) → is_queue_empty run ≡ true → occurrences_of place (queued_places run.ready) ≡ 0
   none_queued run place e =
       let both = both_true (length run.ready.fresh == 0) (length run.ready.moving == 0) e in
       ap (λ (xs : List ℕ). occurrences_of place (xs ++ run.ready.moving)) (none_in run.ready.fresh both.0)

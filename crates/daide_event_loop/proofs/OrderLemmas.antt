@@ -26,7 +26,7 @@ use Rattle.daide_event_loop.proofs.CountLemmas.{counted_append, parts_count, non
 -- ---- counts of the calls that a round makes beside its visits
 
 module _ {P : Type 0} where
-  accepts_early : IsOfOpening {P = P} accept_calls
+  pub accepts_early : IsOfOpening {P = P} accept_calls
   accepts_early = record {
     connects = λ place connect. refl;
     turns = λ place before after. refl;
@@ -54,7 +54,7 @@ module _ {P : Type 0} where
   }
 
   -- what a round counts, it counts when it begins and when it accepts a bot
-  counted_early : (count : SystemCall P → ℕ) → IsOfOpening count → (port_transition : P → PortCall → P → Type 0)
+  pub counted_early : (count : SystemCall P → ℕ) → IsOfOpening count → (port_transition : P → PortCall → P → Type 0)
       (ys : List (SystemCall P)) (old new : ServiceView P) → (r : Round port_transition old ys new) →
       sum_over_calls count ys ≡ sum_over_calls count (opening r.woken r.orders old) + sum_over_calls count r.admission
   counted_early count early port_transition ys old new r =

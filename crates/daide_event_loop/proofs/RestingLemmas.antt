@@ -69,7 +69,7 @@ module _ {P : Type 0} (port_transition : P → PortCall → P → Type 0) (other
       h.turned h.takes.made)
       (leave_elsewhere (is_closed h.now.0) h.now (record old { slab = h.turned }) h.leaving new h.leaves))
 
-  visit_elsewhere : (at : Option (SlabPlace (SessionView × QuotaPortsView P))) (old : ServiceView P) (turns : ℕ)
+  pub visit_elsewhere : (at : Option (SlabPlace (SessionView × QuotaPortsView P))) (old : ServiceView P) (turns : ℕ)
       (answers : List (SystemCall P)) (new : ServiceView P) → VisitsBy port_transition at old other turns answers new →
       All (IsElsewhere place) answers
   visit_elsewhere None old turns answers new h = All-same (IsElsewhere place) answers [] h.1 (All-nil (IsElsewhere place))
@@ -107,7 +107,7 @@ module _ {P : Type 0} (port_transition : P → PortCall → P → Type 0) where
       (turns_there_only port_transition turns old.slab place h.turning h.turned h.takes.made)
       (leave_there (is_closed h.now.0) h.now (record old { slab = h.turned }) place h.leaving new h.leaves)
 
-  visit_there : (at : Option (SlabPlace (SessionView × QuotaPortsView P))) (old : ServiceView P) (place turns : ℕ)
+  pub visit_there : (at : Option (SlabPlace (SessionView × QuotaPortsView P))) (old : ServiceView P) (place turns : ℕ)
       (answers : List (SystemCall P)) (new : ServiceView P) → VisitsBy port_transition at old place turns answers new →
       ChangesOnlyAt place old.slab new.slab
   visit_there None old place turns answers new h = same_there place old.slab new.slab (ap (λ (s : ServiceView P). s.slab) h.2)

@@ -1,33 +1,37 @@
--- A session at a wait that is idle and calm sleeps.
-use Rattle.std.proofs.Common.{◌≡◌, ℕ, ◌<◌, Bool, true, false, List, [], ◌∷◌, length, refl, sym, ap, ◌∙◌, subst, arith}
-use Rattle.std.proofs.Common.{inl, inr, ⊎_elim, Option}
-use Rattle.std.specs.Prelude.{◌||◌, ◌&&◌, not, All, Contains, min}
+-- A session that is at rest sleeps while a poll may block.
+use Rattle.std.proofs.Common.{◌≡◌, ℕ, ◌-◌, ◌<◌, Bool, true, false, List, [], ◌∷◌, ◌++◌, length, sym, ap, ◌∙◌, subst, arith, ⊎_elim}
+use Rattle.std.specs.Prelude.{◌&&◌, not, min, IfSome, Option, Some, None, slice_get}
+use Rattle.std.specs.Time.{instant_nanos}
 use Rattle.std.specs.declared.time.Duration.{Duration}
-use Rattle.std.proofs.lemmas.List.Elements.{All-weaker, All-contains, All-contains_itself}
+use Rattle.std.specs.declared.time.Instant.{Instant}
+use Rattle.std.proofs.lemmas.Option.{slice_get_within}
 use Rattle.daide_frame.specs.declared.side.Side.{Side}
-use Rattle.daide_frame.specs.declared.side.Side.TheVariants.{Bot, Server}
 use Rattle.daide_protocol.specs.Wires.{SessionView, room_of, front_of, queued, no_frame}
+use Rattle.daide_settings.specs.declared.settings.Settings.{Settings}
+use Rattle.daide_io.specs.Deadline.{IsNotBefore}
 use Rattle.daide_io.specs.Network.{NetworkCall}
 use Rattle.daide_io.specs.Ports.{PortCall}
-use Rattle.daide_io.specs.System.{SystemCall, TransitsBy}
+use Rattle.daide_io.specs.ReadyQueue.{is_queued}
+use Rattle.daide_io.specs.Streams.{StreamCall}
+use Rattle.daide_io.specs.System.{SystemCall, Polls, Rests, TransitsBy, last_about}
+use Rattle.daide_io.specs.declared.system.Orders.{Orders}
+use Rattle.daide_driver.specs.declared.place.SlabPlace.{SlabPlace}
+use Rattle.daide_driver.specs.declared.place.SlabPlace.TheVariants.{Held}
 use Rattle.daide_event_loop.specs.QuotaPorts.{QuotaPortsView}
-use Rattle.daide_event_loop.specs.Waiting.{IsIdleAtWait}
-use Rattle.daide_event_loop.proofs.WaitingLemmas.{idle_run}
+use Rattle.daide_event_loop.specs.Serving.{ServiceView, Round, Rounds, initial_service, is_queue_empty, shows_where}
+use Rattle.daide_event_loop.specs.Waiting.{IsIdleSession, IsAtRest}
+use Rattle.daide_event_loop.proofs.AcceptLemmas.{none_queued, rounds_length}
+use Rattle.daide_event_loop.proofs.RestingLemmas.{resting_sessions_are_idle}
+use Rattle.daide_event_loop.proofs.WaitingLemmas.{is_absent}
 use Rattle.daide_sockets.specs.declared.socket.Socket.{Socket}
-use Rattle.daide_sockets.specs.Sockets.{has_socket_work, is_some_byte}
-use Rattle.daide_sockets.specs.Table.{Table, IsNoTime, is_reported_at}
-use Rattle.daide_sockets.specs.Wakeups.{SessionSockets, Wakes, may_go_on}
+use Rattle.daide_sockets.specs.InTime.{IsAtMost, watching_all}
+use Rattle.daide_sockets.specs.Sockets.{is_some_byte}
+use Rattle.daide_sockets.specs.Table.{Table, AreDeadlinesBounded, IsPollTime}
+use Rattle.daide_sockets.specs.Wakeups.{SessionSockets, Wakes, session_due}
+use Rattle.daide_sockets.proofs.InTimeLemmas.{IsBy, earlier_left, by_due, same_due, same_reading}
 use Rattle.daide_run_laws.specs.NoLostWakeups.{socket_at, Sleeps, NoWakeupIsLost}
+use Rattle.daide_run_laws.proofs.RestLemmas.{IsQuiet, none_reported, no_tries, no_writes, rests_quiet, places_kept, bounded_after}
 use Rattle.daide_run_laws.proofs.TurnSettled.{PortsSettle, quiet_found, full_found}
-use Rattle.daide_run_laws.proofs.Watched.{IsCalm, watched_calm, transits_split}
-
-left_false : (a b : Bool) → (a || b) ≡ false → a ≡ false
-left_false false b e = refl
-left_false true b e = absurd (cc)
-
-right_false : (a b : Bool) → (a || b) ≡ false → b ≡ false
-right_false false b e = e
-right_false true b e = absurd (cc)
 
 -- with bytes to write and no work a socket is not writable
 none_writable : (held : List ℕ) (failed writable : Bool) → failed ≡ false → 0 < length held →
@@ -36,87 +40,122 @@ none_writable [] failed writable e some h = absurd (omega (arith, some))
 none_writable (byte ∷ held) failed writable e some h =
     sym (ap (λ (f : Bool). (true && not f) && writable) e) ∙ h
 
+bound_by : (nearest : Option Instant) (due : Instant) → IsNotBefore nearest (Some due) → IsBy nearest due
+bound_by None due h = h
+bound_by (Some moment) due h = h
+
+-- a poll that may block ends by the deadline of a place at rest
+pub ends_by : {S : Type 0} (table : Table) (others : List (Bool × Option Instant)) (time : Option Duration) (place : ℕ)
+    (session : SessionSockets S) → IsPollTime true (watching_all table others) time → AreDeadlinesBounded table →
+    IsQuiet table place session → (now due : Instant) → table.reading ≡ Some now → session_due session ≡ Some due →
+    IsAtMost time (instant_nanos due - instant_nanos now)
+ends_by table others time place session lasts bounded quiet now due read is =
+    by_due (watching_all table others) time now due (same_reading table others ∙ read) lasts
+    (earlier_left (watching_all table others).due (watching_all table others).watched_due due
+    (subst (λ (o : Option Instant). IsBy o due) (sym (same_due table others))
+    (bound_by table.due due (subst (IsNotBefore table.due) (quiet.due ∙ is) (bounded place)))))
+
+-- ---- a poll of a run
+
+module _ {P : Type 0} (port_transition : P → PortCall → P → Type 0) where
+  -- a poll may block only if no place is queued
+  pub found_empty : (woken : List ℕ) (orders : Orders) (others : List (SystemCall P)) (run next : ServiceView P) →
+      Round port_transition run (Polls true woken orders ∷ others) next → is_queue_empty run ≡ true
+  found_empty woken orders others run next r =
+      let asked : Polls true woken orders ∷ others ≡ Polls (is_queue_empty run) r.woken r.orders
+      ∷ (shows_where r.orders.shows_sessions run.slab.places ++ r.visiting ++ r.admission) = r.asked in
+      cc
+
+  pub none_waits : (woken : List ℕ) (orders : Orders) (others : List (SystemCall P)) (run next : ServiceView P) →
+      Round port_transition run (Polls true woken orders ∷ others) next → (place : ℕ) → is_queued run.ready place ≡ false
+  none_waits woken orders others run next r place =
+      is_absent run.ready place (none_queued port_transition run place (found_empty woken orders others run next r))
+
+  -- what is known of a session at rest: its last turn, its sockets, and its deadline
+  pub record RestsAt {S : Type 0} (table : Table) (place : ℕ) (held : SessionView × QuotaPortsView P) (session : SessionSockets S) :
+      Type 0 where
+    pub idle : IsIdleSession port_transition held
+    pub quiet : IsQuiet table place session
+    pub inside : place < length table.deadlines
+    pub bounded : AreDeadlinesBounded table
+
+  module _ {S N C : Type 0} (transition : N → NetworkCall C → N → Type 0) (calls : S → Option (List StreamCall))
+      (view : P → SessionSockets S) where
+    some_bounded : (place : ℕ) (call : SystemCall P) (trace : List (SystemCall P)) (first old : N × Table) →
+        last_about place None trace ≡ Some call → TransitsBy (Wakes transition calls view) first trace old →
+        AreDeadlinesBounded old.1
+    some_bounded place call [] first old e goes = absurd (cc)
+    some_bounded place call (one ∷ trace) first old e goes = bounded_after transition calls view one trace first old goes
+
+    -- each session that is not queued after some rounds
+    pub rests_at : (settings : Settings) (n : ℕ) (before : List (SystemCall P)) (run : ServiceView P) (first old : N × Table)
+        (place : ℕ) (held : SessionView × QuotaPortsView P) →
+        Rounds port_transition n (initial_service settings) before run → length first.1.deadlines ≡ settings.max_sessions →
+        TransitsBy (Wakes transition calls view) first before old → is_queued run.ready place ≡ false →
+        slice_get run.slab.places place ≡ Some (Held held) → RestsAt old.1 place held (view held.1.ports)
+    rests_at settings n before run first old place held rounds places goes queued at =
+        let rest : IsAtRest port_transition before place (Held held) =
+        subst (λ (o : Option (SlabPlace (SessionView × QuotaPortsView P))). IfSome o (IsAtRest port_transition before place)) at
+        (resting_sessions_are_idle port_transition settings n before run rounds place queued) in
+        let within = slice_get_within run.slab.places place (Held held) at in
+        let all = rounds_length port_transition settings n before run rounds in
+        let inside : place < length first.1.deadlines = omega (arith, within, all, places) in
+        let kept = places_kept transition calls view before first old goes in
+        record {
+          idle = rest.0;
+          quiet = rests_quiet transition calls view before first old None place inside goes (λ ports e. absurd (cc)) held.1.ports rest.1;
+          inside = omega (arith, inside, kept);
+          bounded = some_bounded place (Rests place held.1.ports true) before first old rest.1 goes;
+        }
+
 module _ {P S : Type 0} (port_transition : P → PortCall → P → Type 0) (view : P → SessionSockets S)
     (settles : PortsSettle port_transition view) where
-  one_sleeps : (round : List (SystemCall P)) (place : SessionView × QuotaPortsView P) (table : Table)
-      (time : Option Duration) → IsIdleAtWait port_transition round place →
-      IsCalm table table.reading time (view place.1.ports) → Sleeps table time place.0 (view place.1.ports)
-  one_sleeps round place table time waits calm = record {
-    reported = λ side. left_false (is_reported_at table (own side).key) (work side) (still side);
+  one_sleeps : (table : Table) (others : List (Bool × Option Instant)) (time : Option Duration) (place : ℕ)
+      (held : SessionView × QuotaPortsView P) → IsPollTime true (watching_all table others) time →
+      RestsAt port_transition table place held (view held.1.ports) → Sleeps table time place held.0 (view held.1.ports)
+  one_sleeps table others time place held lasts rests = record {
+    reported = none_reported table place (view held.1.ports) rests.quiet;
     read = read;
     written = written;
     flushed = λ side writing. none_writable (own side).stream.write_buffer (own side).stream.has_failed
-        (own side).readiness.may_write writing.0 writing.1
-        (right_false (own side).tries_again
-        ((is_some_byte (own side).stream.write_buffer && not (own side).stream.has_failed) && (own side).readiness.may_write)
-        (none side));
-    in_time = calm.in_time;
+        (own side).readiness.may_write writing.0 writing.1 (no_writes table place (view held.1.ports) rests.quiet side);
+    in_time = ends_by table others time place (view held.1.ports) lasts rests.bounded rests.quiet;
   }
     where
       own : Side → Socket S
-      own side = socket_at (view place.1.ports) side
-
-      work : Side → Bool
-      work side = has_socket_work (own side).stream (own side).readiness (own side).tries_again
-
-      still : (side : Side) → may_go_on table (own side) ≡ false
-      still Bot = left_false (may_go_on table (own Bot)) (may_go_on table (own Server)) calm.still
-      still Server = right_false (may_go_on table (own Bot)) (may_go_on table (own Server)) calm.still
-
-      none : (side : Side) → work side ≡ false
-      none side = right_false (is_reported_at table (own side).key) (work side) (still side)
+      own side = socket_at (view held.1.ports) side
 
       once : (side : Side) → (own side).tries_again ≡ false
-      once side =
-          left_false (own side).tries_again
-          ((is_some_byte (own side).stream.write_buffer && not (own side).stream.has_failed) && (own side).readiness.may_write)
-          (none side)
+      once side = no_tries table place (view held.1.ports) rests.quiet side
 
-      read : (side : Side) → 0 < room_of place.0 side →
+      read : (side : Side) → 0 < room_of held.0 side →
           ((own side).readiness.may_read ≡ false) × ((own side).stream.read_buffer ≡ [])
       read side room =
-          let pulled = waits.idle.pulled side room in
+          let pulled = rests.idle.pulled side room in
           let call = pulled.2 in
           ⊎_elim (λ (again : (own side).tries_again ≡ true). let other = once side in absurd (cc))
           (λ (quiet : ((own side).readiness.may_read ≡ false) × ((own side).stream.read_buffer ≡ [])). quiet)
-          (quiet_found port_transition view settles side (min (room_of place.0 side) 512) pulled.0 pulled.1
-          waits.idle.turn call.0 call.1 call.2 waits.idle.begun place.1.ports waits.idle.evolves waits.idle.still waits.idle.made)
+          (quiet_found port_transition view settles side (min (room_of held.0 side) 512) pulled.0 pulled.1
+          rests.idle.turn call.0 call.1 call.2 rests.idle.begun held.1.ports rests.idle.evolves rests.idle.still rests.idle.made)
 
-      written : (side : Side) → no_frame (queued place.0 side) ≡ false → (own side).readiness.may_write ≡ false
+      written : (side : Side) → no_frame (queued held.0 side) ≡ false → (own side).readiness.may_write ≡ false
       written side some =
-          let call = waits.idle.offered side some in
+          let call = rests.idle.offered side some in
           ⊎_elim (λ (again : (own side).tries_again ≡ true). let other = once side in absurd (cc))
           (λ (full : (own side).readiness.may_write ≡ false). full)
-          (full_found port_transition view settles side (front_of place.0 side) waits.idle.turn call.0 call.1 call.2
-          waits.idle.begun place.1.ports waits.idle.evolves waits.idle.made)
-
-  all_sleep : (round : List (SystemCall P)) (places : List (SessionView × QuotaPortsView P)) (table : Table)
-      (time : Option Duration) → All (IsIdleAtWait port_transition round) places →
-      All (λ (place : SessionView × QuotaPortsView P). IsCalm table table.reading time (view place.1.ports)) places →
-      All (λ (place : SessionView × QuotaPortsView P). Sleeps table time place.0 (view place.1.ports)) places
-  all_sleep round places table time idle calm =
-      let calms : SessionView × QuotaPortsView P → Type 0 = λ place. IsCalm table table.reading time (view place.1.ports) in
-      All-weaker (Contains places) (λ (place : SessionView × QuotaPortsView P). Sleeps table time place.0 (view place.1.ports))
-      (λ place there. one_sleeps round place table time (All-contains (IsIdleAtWait port_transition round) places place idle there)
-      (All-contains calms places place calm there)) places (All-contains_itself places)
+          (full_found port_transition view settles side (front_of held.0 side) rests.idle.turn call.0 call.1 call.2
+          rests.idle.begun held.1.ports rests.idle.evolves rests.idle.made)
 
 pub no_wakeup_lost : {P S N C : Type 0} (port_transition : P → PortCall → P → Type 0) (view : P → SessionSockets S)
-    (transition : N → NetworkCall C → N → Type 0) → PortsSettle port_transition view →
-    NoWakeupIsLost port_transition view transition
-no_wakeup_lost {P = P} port_transition view transition settles =
-    λ settings n before round mid run first old new rounds ongoing waits trace rests.
-    let idle = idle_run port_transition settings n before round mid run rounds ongoing waits in
-    let places = run.hub.places in
-    let last = transits_split (Wakes transition view) before round first old trace in
-    let watched = transits_split (Wakes transition view) idle.early idle.visits last.0 old
-    (subst (λ (l : List (SystemCall P)). TransitsBy (Wakes transition view) last.0 l old) idle.parts last.2) in
-    let time = rests.1.time in
+    (calls : S → Option (List StreamCall)) (transition : N → NetworkCall C → N → Type 0) → PortsSettle port_transition view →
+    NoWakeupIsLost port_transition view calls transition
+no_wakeup_lost port_transition view calls transition settles =
+    λ settings n before others woken orders run next first old new rounds round places trace poll.
     record {
-      others = rests.0;
-      rests = rests.1;
-      asleep = ⊎_elim (λ (none : IsNoTime time). inl none)
-          (λ (calm : All (λ (place : SessionView × QuotaPortsView P). IsCalm old.1 old.1.reading time (view place.1.ports)) places).
-          inr (all_sleep port_transition view settles idle.visits places old.1 time idle.sessions calm))
-          (watched_calm transition view port_transition idle.visits places watched.0 old rests.0 time idle.sessions idle.only watched.2
-          rests.1.lasts);
+      others = poll.1.0;
+      polls = poll.1.1;
+      asleep = λ place held at.
+          one_sleeps port_transition view settles old.1 poll.1.0 poll.1.1.time place held poll.1.1.lasts
+          (rests_at port_transition transition calls view settings n before run first old place held rounds places trace
+          (none_waits port_transition woken orders others run next round place) at);
     }

@@ -6,9 +6,8 @@ use Rattle.std.specs.Duration.{as_nanos}
 use Rattle.std.specs.declared.time.Duration.{Duration}
 use Rattle.std.specs.declared.time.Instant.{Instant}
 use Rattle.daide_io.specs.Network.{NetworkCall}
-use Rattle.daide_io.specs.System.{SystemCall, Begins, Shows, ReportsNews, BeginsTurn, Watches, Accepts, Connects}
-use Rattle.daide_io.specs.System.{Retires, Notifies, Waits, TransitsBy}
-use Rattle.daide_io.specs.declared.system.Connect.TheVariants.{Ready}
+use Rattle.daide_io.specs.System.{SystemCall, Polls, Shows, Accepts, Connects, BeginsTurn, Rests, Retires, Notifies, TransitsBy}
+use Rattle.daide_io.specs.declared.system.Connect.TheVariants.{Ready, Failed, Pending}
 use Rattle.daide_sockets.specs.Scheduling.{RunState, SameTimes, Schedules}
 use Rattle.daide_sockets.specs.Timers.{SessionTimers, BeginsAt}
 use Rattle.daide_sockets.specs.Times.{IsIdleTime, IsSeconds}
@@ -36,32 +35,32 @@ module _ {N C P S : Type 0} (network : N → NetworkCall C → N → Type 0) (ti
       ap (λ (t : Option Duration). (t, new.times.1)) h.0 ∙ ap (λ (t : Option Duration). (old.times.0, t)) h.1
 
   times_kept : (call : SystemCall P) (old new : RunState N S) → Schedules network timers old call new → new.times ≡ old.times
-  times_kept (Begins orders) old new h = same_times old new h
-  times_kept (Accepts came) old new h = same_times old new h.0
-  times_kept (Connects connect) old new h = same_times old new h.0.0
-  times_kept Waits old new h = same_times old new h.0.0
+  times_kept (Polls may_block woken orders) old new h = same_times old new h.0
+  times_kept (Accepts place came) old new h = same_times old new h.0
+  times_kept (Connects place (Ready ports)) old new h = same_times old new h.0.0
+  times_kept (Connects place Failed) old new h = same_times old new h.0
+  times_kept (Connects place Pending) old new h = same_times old new h.0.0
   times_kept (Shows ports status) old new h = same_times old new h.0
-  times_kept (ReportsNews ports news) old new h = same_times old new h.0
-  times_kept (BeginsTurn before after) old new h = same_times old new h.0
-  times_kept (Watches ports) old new h = same_times old new h.0
-  times_kept (Retires ports end) old new h = same_times old new h.0
+  times_kept (BeginsTurn place before after) old new h = same_times old new h.0
+  times_kept (Rests place ports rests) old new h = same_times old new h.0
+  times_kept (Retires place ports end) old new h = same_times old new h.0
   times_kept (Notifies notice) old new h = same_times old new h.0
 
-  begun_at : (ports : P) (calls : List (SystemCall P)) (old new : RunState N S) →
+  begun_at : (place : ℕ) (ports : P) (calls : List (SystemCall P)) (old new : RunState N S) →
       TransitsBy (Schedules network timers) old calls new → (i : ℕ) → i < length calls →
-      get_or calls i (Connects (Ready ports)) ≡ Connects (Ready ports) → Begun ports old.times
-  begun_at ports [] old new h i less is = absurd (omega (arith, less))
-  begun_at ports (call ∷ calls) old new h zero less is =
+      get_or calls i (Connects place (Ready ports)) ≡ Connects place (Ready ports) → Begun ports old.times
+  begun_at place ports [] old new h i less is = absurd (omega (arith, less))
+  begun_at place ports (call ∷ calls) old new h zero less is =
       let own = subst (λ (c : SystemCall P). Schedules network timers old c h.0) is h.1 in
       (old.table.reading, own.1)
-  begun_at ports (call ∷ calls) old new h (suc i) less is =
-      subst (Begun ports) (times_kept call old h.0 h.1) (begun_at ports calls h.0 new h.2 i (omega (arith, less)) is)
+  begun_at place ports (call ∷ calls) old new h (suc i) less is =
+      subst (Begun ports) (times_kept call old h.0 h.1) (begun_at place ports calls h.0 new h.2 i (omega (arith, less)) is)
 
   -- the ports of each connect of a run began with its timeouts
-  pub begun_with : (ports : P) (calls : List (SystemCall P)) (old new : RunState N S) →
-      TransitsBy (Schedules network timers) old calls new → Contains calls (Connects (Ready ports)) →
+  pub begun_with : (place : ℕ) (ports : P) (calls : List (SystemCall P)) (old new : RunState N S) →
+      TransitsBy (Schedules network timers) old calls new → Contains calls (Connects place (Ready ports)) →
       (start : Option Instant) × BeginsAt start old.times (timers ports)
-  begun_with ports calls old new h there = begun_at ports calls old new h there.0 there.1 there.2
+  begun_with place ports calls old new h there = begun_at place ports calls old new h there.0 there.1 there.2
 
 -- at a reading of the clock, with both timeouts
 pub begins_with_both : {S : Type 0} (idle stall : Duration) (times : Option Duration × Option Duration)

@@ -1,12 +1,10 @@
--- Each session at a wait that blocks has a deadline, by which the wait ends.
-use Rattle.std.proofs.Common.{◌≡◌, ◌⊎◌, ℕ, ◌+◌, ◌<◌, ◌≤◌, Bool, true, false, List, [], ◌∷◌, ◌++◌, refl, ap, ◌∙◌, subst, arith, inl, inr, ⊎_elim}
-use Rattle.std.proofs.Common.{Option, Some}
-use Rattle.std.specs.Prelude.{◌||◌, ◌&&◌, not, min, max, All, Contains, if◌then◌else◌}
+-- Each session at a poll that may block has a deadline, by which the poll ends; and one that is late is woken.
+use Rattle.std.proofs.Common.{◌≡◌, ◌⊎◌, ℕ, ◌+◌, ◌<◌, ◌≤◌, Bool, true, false, List, [], ◌∷◌, refl, sym, ap, ◌∙◌, subst, arith, inl, inr, ⊎_elim}
+use Rattle.std.specs.Prelude.{◌||◌, min, max, if◌then◌else◌, Option, Some, slice_get}
 use Rattle.std.specs.Duration.{as_nanos}
 use Rattle.std.specs.Time.{instant_nanos}
 use Rattle.std.specs.declared.time.Duration.{Duration}
 use Rattle.std.specs.declared.time.Instant.{Instant}
-use Rattle.std.proofs.lemmas.List.Elements.{All-same, All-weaker, All-contains, All-contains_itself, filter_passes}
 use Rattle.daide_frame.specs.declared.side.Side.{Side}
 use Rattle.daide_frame.specs.declared.side.Side.TheVariants.{Bot, Server}
 use Rattle.daide_frame.specs.Frames.{missing}
@@ -17,25 +15,29 @@ use Rattle.daide_protocol.proofs.FramesHeard.{waited_for}
 use Rattle.daide_io.specs.declared.ports.Put.TheVariants.{Took}
 use Rattle.daide_io.specs.Network.{NetworkCall}
 use Rattle.daide_io.specs.Ports.{PortCall, Pulled, Offered, events_of}
-use Rattle.daide_io.specs.System.{SystemCall, Waits, TransitsBy}
+use Rattle.daide_io.specs.ReadyQueue.{is_among, is_queued}
+use Rattle.daide_io.specs.Streams.{StreamCall}
+use Rattle.daide_io.specs.System.{SystemCall, Polls}
+use Rattle.daide_driver.specs.declared.place.SlabPlace.TheVariants.{Held}
+use Rattle.daide_driver.specs.Slab.{IfHeldAt}
 use Rattle.daide_settings.specs.declared.settings.Settings.{Settings}
-use Rattle.daide_driver.specs.Hub.{HubView}
 use Rattle.daide_event_loop.specs.QuotaPorts.{QuotaPortsView}
-use Rattle.daide_event_loop.specs.Serving.{ServiceView, Round, remaining, fresh}
+use Rattle.daide_event_loop.specs.Serving.{Round, fresh}
 use Rattle.daide_event_loop.specs.Served.{run_limits}
-use Rattle.daide_event_loop.specs.Waiting.{MakesNoProgress, IsOfTurn, IsIdleSession, IsIdleAtWait}
-use Rattle.daide_event_loop.proofs.WaitingLemmas.{idle_run}
-use Rattle.daide_sockets.specs.declared.socket.Socket.{Socket}
-use Rattle.daide_sockets.specs.Sockets.{has_socket_work, is_some_byte}
-use Rattle.daide_sockets.specs.Table.{Table, IsNoTime, is_reported_at}
+use Rattle.daide_event_loop.specs.Waiting.{MakesNoProgress, IsOfTurn, IsIdleSession}
+use Rattle.daide_sockets.specs.InTime.{watching_all}
+use Rattle.daide_sockets.specs.Table.{Table, IsPollTime, deadline_at}
 use Rattle.daide_sockets.specs.Timers.{SessionTimers}
-use Rattle.daide_sockets.specs.Wakeups.{SessionSockets, Wakes, may_go_on, session_due}
+use Rattle.daide_sockets.specs.Times.{is_past}
+use Rattle.daide_sockets.specs.Wakeups.{SessionSockets, KeepsPlace, session_due}
 use Rattle.daide_run_laws.specs.FreedPlaces.{IsTimed, HasDeadline, NoSessionWaitsForEver}
-use Rattle.daide_run_laws.proofs.TurnSettled.{PortsSettle}
-use Rattle.daide_run_laws.proofs.Watched.{IsCalm, watched_calm, transits_split}
+use Rattle.daide_run_laws.proofs.AsleepLemmas.{RestsAt, rests_at, ends_by, none_waits}
 use Rattle.daide_run_laws.proofs.BegunSessions.{set_time, seconds_last, begun_with, begins_with_both}
-use Rattle.daide_run_laws.proofs.TimedSessions.{PortsSetTimers, own, BeginsTimed, IsTimedNow, begins_timed, history_timed}
 use Rattle.daide_run_laws.proofs.Deadlines.{IsAwake, IsHeld, IsStalling, awake_found, awake_stays, held_found, held_stays, due_there, kept_from}
+use Rattle.daide_run_laws.proofs.OpenSessions.{rounds_open}
+use Rattle.daide_run_laws.proofs.RestLemmas.{IsQuiet, no_tries}
+use Rattle.daide_run_laws.proofs.TimedSessions.{PortsSetTimers, own, BeginsTimed, IsTimedNow, begins_timed, history_timed}
+use Rattle.daide_run_laws.proofs.TurnSettled.{PortsSettle}
 
 -- ---- what a session waits for
 
@@ -77,21 +79,9 @@ waits_for_some limits events effects g run going =
         let some = waited_for events limits effects g.state run o Bot in
         inl (Bot, omega (arith, room, some))
 
-left_false : (a b : Bool) → (a || b) ≡ false → a ≡ false
-left_false false b e = refl
-left_false true b e = absurd (cc)
-
-right_false : (a b : Bool) → (a || b) ≡ false → b ≡ false
-right_false false b e = e
-right_false true b e = absurd (cc)
-
-not_true : (b : Bool) → not b ≡ true → b ≡ false
-not_true false e = refl
-not_true true e = absurd (cc)
-
 module _ {P S : Type 0} (port_transition : P → PortCall → P → Type 0) (timers : P → SessionTimers S)
     (settles : PortsSettle port_transition (λ ports. (timers ports).sockets)) (keeps : PortsSetTimers port_transition timers) where
-  -- what one session at a wait waits for, by its last turn
+  -- what a session at rest waits for, by its last turn
   one_due : (idle stall : Duration) (place : SessionView × QuotaPortsView P) → IsIdleSession port_transition place →
       ((side : Side) → (own (timers place.1.ports) side).tries_again ≡ false) →
       (t : IsTimedNow idle stall (timers place.1.ports)) → WaitsForSome place.0 →
@@ -135,92 +125,82 @@ module _ {P S : Type 0} (port_transition : P → PortCall → P → Type 0) (tim
           (keeps a b (Offered side (front_of place.0 side) (Took 0)) h) made)
           idling.turn call.0 call.1 call.2 idling.begun place.1.ports idling.evolves idling.still idling.made)
 
-  no_tries : (place : SessionView × QuotaPortsView P) (table : Table) (time : Option Duration) →
-      IsCalm table table.reading time (timers place.1.ports).sockets → (side : Side) →
-      (own (timers place.1.ports) side).tries_again ≡ false
-  no_tries place table time calm side =
-      left_false (socket side).tries_again
-      ((is_some_byte (socket side).stream.write_buffer && not (socket side).stream.has_failed) && (socket side).readiness.may_write)
-      (right_false (is_reported_at table (socket side).key)
-      (has_socket_work (socket side).stream (socket side).readiness (socket side).tries_again) (still side))
-    where
-      socket : Side → Socket S
-      socket side = own (timers place.1.ports) side
-
-      still : (side : Side) → may_go_on table (socket side) ≡ false
-      still Bot = left_false (may_go_on table (socket Bot)) (may_go_on table (socket Server)) calm.still
-      still Server = right_false (may_go_on table (socket Bot)) (may_go_on table (socket Server)) calm.still
-
-  one_deadline : (settings : Settings) (answers round : List (SystemCall P)) (place : SessionView × QuotaPortsView P)
-      (table : Table) (time : Option Duration) → IsIdleAtWait port_transition round place →
-      IsCalm table table.reading time (timers place.1.ports).sockets → is_closed place.0 ≡ false → (idle stall : Duration) →
-      (timed : IsTimed port_transition timers settings answers idle stall place) →
-      BeginsTimed idle stall (timers timed.session.ports) → HasDeadline idle stall table time (timers place.1.ports)
-  one_deadline settings answers round place table time waits calm going idle stall timed begins =
+  one_deadline : (settings : Settings) (calls : List (SystemCall P)) (table : Table) (others : List (Bool × Option Instant))
+      (time : Option Duration) (place : ℕ) (held : SessionView × QuotaPortsView P) →
+      IsPollTime true (watching_all table others) time →
+      RestsAt port_transition table place held (timers held.1.ports).sockets → is_closed held.0 ≡ false → (idle stall : Duration) →
+      (timed : IsTimed port_transition timers settings calls idle stall held) →
+      BeginsTimed idle stall (timers timed.session.ports) → HasDeadline idle stall table time (timers held.1.ports)
+  one_deadline settings calls table others time place held lasts rests going idle stall timed begins =
       let run = timed.session.stands.0.sends.run in
       let some = waits_for_some (run_limits settings) (events_of timed.session.history) timed.session.stands.0.sends.effects
-      place.0 run going in
-      let now : IsTimedNow idle stall (timers place.1.ports) =
-      history_timed idle stall port_transition timers keeps timed.session.history (fresh timed.session.ports settings.turns) place.1
+      held.0 run going in
+      let now : IsTimedNow idle stall (timers held.1.ports) =
+      history_timed idle stall port_transition timers keeps timed.session.history (fresh timed.session.ports settings.turns) held.1
       timed.session.answered timed.clock (begins_timed idle stall (timers timed.session.ports) begins) in
-      let due = one_due idle stall place waits.idle (no_tries place table time calm) now some in
+      let due = one_due idle stall held rests.idle (no_tries table place (timers held.1.ports).sockets rests.quiet) now some in
       record {
         due = due.0;
         now = now.now;
         is = due.1;
         reading = now.reading.read;
         within = due.2;
-        ends = λ at read. calm.in_time at due.0 read due.1;
+        ends = λ at read. ends_by table others time place (timers held.1.ports).sockets lasts rests.bounded rests.quiet at due.0 read due.1;
       }
 
-  all_open : (round : List (SystemCall P)) (mid run : ServiceView P) → Round port_transition mid round run →
-      All (λ (p : SessionView × QuotaPortsView P). not (is_closed p.0) ≡ true) run.hub.places
-  all_open round mid run r =
-      All-same (λ (p : SessionView × QuotaPortsView P). not (is_closed p.0) ≡ true) run.hub.places (remaining r.turned.places)
-      (ap (λ (k : HubView (QuotaPortsView P)). k.places) r.removes.1)
-      (filter_passes (λ place. not (is_closed place.0)) r.turned.places)
+  -- a place that keeps its deadline, which is not past, has a session whose deadline is not past
+  one_late : (old new : Table) (woken : List ℕ) (place : ℕ) (session : SessionSockets S) → IsQuiet old place session →
+      (is_among place woken ≡ false → KeepsPlace old place new × (is_past new.reading (deadline_at new place) ≡ false)) →
+      is_past new.reading (session_due session) ≡ true → is_among place woken ≡ true
+  one_late old new woken place session quiet asleep late = by (is_among place woken) refl
+    where
+      by : (among : Bool) → is_among place woken ≡ among → is_among place woken ≡ true
+      by true e = e
+      by false e =
+          let kept = asleep e in
+          let early : is_past new.reading (session_due session) ≡ false =
+          ap (λ (d : Option Instant). is_past new.reading d) (sym (kept.0.deadline ∙ quiet.due)) ∙ kept.1 in
+          absurd (cc)
 
-  pub no_session_waits : {N C : Type 0} (network : N → NetworkCall C → N → Type 0) →
-      NoSessionWaitsForEver port_transition timers network
-  no_session_waits network = λ settings n before round mid run first old new begun after idles stalls times rounds ongoing waits
-      sessions trace rests.
+  pub no_session_waits : {N C : Type 0} (calls : S → Option (List StreamCall)) (network : N → NetworkCall C → N → Type 0) →
+      NoSessionWaitsForEver port_transition timers calls network
+  no_session_waits calls network = λ settings n before others may_block woken orders run next first old new begun last idles stalls
+      times rounds round places sessions trace poll.
       let view : P → SessionSockets S = λ ports. (timers ports).sockets in
-      let answers = before ++ round ++ Waits ∷ [] in
-      let idle = idle_run port_transition settings n before round mid run rounds ongoing waits in
-      let places = run.hub.places in
-      let last = transits_split (Wakes network view) before round first old trace in
-      let watched = transits_split (Wakes network view) idle.early idle.visits last.0 old
-      (subst (λ (l : List (SystemCall P)). TransitsBy (Wakes network view) last.0 l old) idle.parts last.2) in
-      let going = all_open (round ++ Waits ∷ []) mid run waits in
-      let time = rests.1.time in
       let one = set_time settings.idle_seconds begun.times.0 times.0 idles in
       let other = set_time settings.stall_seconds begun.times.1 times.1 stalls in
       let both : begun.times ≡ (Some one.0, Some other.0) =
       ap (λ (t : Option Duration). (t, begun.times.1)) one.1 ∙ ap (λ (t : Option Duration). (Some one.0, t)) other.1 in
-      let begins : (place : SessionView × QuotaPortsView P) →
-      (timed : IsTimed port_transition timers settings answers one.0 other.0 place) →
+      let begins : (held : SessionView × QuotaPortsView P) →
+      (timed : IsTimed port_transition timers settings before one.0 other.0 held) →
       BeginsTimed one.0 other.0 (timers timed.session.ports) =
-      λ place timed. let at = begun_with network timers timed.session.ports answers begun after sessions timed.session.came in
+      λ held timed. let at = begun_with network timers timed.session.place timed.session.ports before begun last sessions
+      timed.session.came in
       begins_with_both one.0 other.0 begun.times at.0 timed.start (timers timed.session.ports) both
       (seconds_last settings.idle_seconds one.0 one.2 idles) timed.begun at.1 in
-      let calms : SessionView × QuotaPortsView P → Type 0 = λ place. IsCalm old.1 old.1.reading time (view place.1.ports) in
+      let at_rest : (place : ℕ) → is_queued run.ready place ≡ false → (held : SessionView × QuotaPortsView P) →
+      slice_get run.slab.places place ≡ Some (Held held) → RestsAt port_transition old.1 place held (view held.1.ports) =
+      λ place queued held at. rests_at port_transition network calls view settings n before run first old place held rounds places
+      trace queued at in
+      let at_block : (is : Bool) → is ≡ true → IsPollTime is (watching_all old.1 poll.1.0) poll.1.1.time →
+      Round port_transition run (Polls is woken orders ∷ others) next → (place : ℕ) → IfHeldAt run.slab.places place (λ held.
+      IsTimed port_transition timers settings before one.0 other.0 held →
+      HasDeadline one.0 other.0 old.1 poll.1.1.time (timers held.1.ports)) =
+      λ is yes lasts again place held at timed.
+      one_deadline settings before old.1 poll.1.0 poll.1.1.time place held
+      (subst (λ (b : Bool). IsPollTime b (watching_all old.1 poll.1.0) poll.1.1.time) yes lasts)
+      (at_rest place (none_waits port_transition woken orders others run next
+      (subst (λ (b : Bool). Round port_transition run (Polls b woken orders ∷ others) next) yes again) place) held at)
+      (rounds_open port_transition settings n before run rounds place held at) one.0 other.0 timed (begins held timed) in
       record {
         idle = one.0;
         stall = other.0;
         idle_lasts = one.2;
         stall_lasts = other.2;
-        others = rests.0;
-        rests = rests.1;
-        deadlines = ⊎_elim (λ (none : IsNoTime time). inl none)
-            (λ (calm : All (λ (place : SessionView × QuotaPortsView P). IsCalm old.1 old.1.reading time (view place.1.ports)) places).
-            inr (All-weaker (Contains places)
-            (λ (place : SessionView × QuotaPortsView P). IsTimed port_transition timers settings answers one.0 other.0 place →
-            HasDeadline one.0 other.0 old.1 time (timers place.1.ports))
-            (λ place there timed. one_deadline settings answers idle.visits place old.1 time
-            (All-contains (IsIdleAtWait port_transition idle.visits) places place idle.sessions there)
-            (All-contains calms places place calm there)
-            (not_true (is_closed place.0) (All-contains (λ (p : SessionView × QuotaPortsView P). not (is_closed p.0) ≡ true) places place going there))
-            one.0 other.0 timed (begins place timed)) places (All-contains_itself places)))
-            (watched_calm network view port_transition idle.visits places watched.0 old rests.0 time idle.sessions idle.only watched.2
-            rests.1.lasts);
+        others = poll.1.0;
+        polls = poll.1.1;
+        deadlines = λ yes. at_block may_block yes poll.1.1.lasts round;
+        late = λ place queued held at.
+            (let rests = at_rest place queued held at in
+            one_late old.1 new.1 woken place (view held.1.ports) rests.quiet (poll.1.1.asleep place rests.inside));
       }

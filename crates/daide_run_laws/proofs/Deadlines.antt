@@ -1,4 +1,4 @@
--- At a wait each session that is timed has a deadline.
+-- Each session at rest that is timed has a deadline.
 use Rattle.std.proofs.Common.{◌≡◌, ◌⊎◌, ℕ, zero, suc, ◌+◌, ◌<◌, ◌≤◌, Bool, true, false, List, [], ◌∷◌, length, get_or}
 use Rattle.std.proofs.Common.{refl, sym, ap, ◌∙◌, subst, arith, inl, inr, ⊎_elim, Option, Some, None}
 use Rattle.std.specs.Prelude.{nat_le, nat_lt, max, All, if◌then◌else◌}

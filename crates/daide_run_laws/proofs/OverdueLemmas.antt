@@ -12,6 +12,7 @@ use Rattle.daide_io.specs.declared.ports.ClockEvent.{ClockEvent}
 use Rattle.daide_io.specs.declared.ports.Pull.{Pull}
 use Rattle.daide_io.specs.declared.ports.Put.{Put}
 use Rattle.daide_io.specs.Network.{NetworkCall}
+use Rattle.daide_io.specs.ReadyQueue.{one_if}
 use Rattle.daide_io.specs.Ports.{PortCall, TurnBegins, Clock, Pulled, Offered, EvolvesBy}
 use Rattle.daide_event_loop.specs.QuotaPorts.{QuotaPortsView, Meters, EvolvesWhile}
 use Rattle.daide_event_loop.specs.Serving.{fresh}
@@ -22,7 +23,6 @@ use Rattle.daide_sockets.specs.Timers.{SessionTimers, BeginsAt, BeginsInTime, Pu
 use Rattle.daide_sockets.specs.Times.{IsStallEnd, has_stalled, is_past}
 use Rattle.daide_sockets.specs.Wakeups.{session_due}
 use Rattle.daide_run_laws.specs.FreedPlaces.{IsLater, ClockGoesOn, peer_timeouts_left, timeouts_left}
-use Rattle.daide_io.specs.ReadyQueue.{one_if}
 use Rattle.daide_run_laws.specs.FreedPlaces.{is_overdue, overdue_turns, deliveries, DeadlinesPassSeldom}
 use Rattle.daide_run_laws.proofs.BegunSessions.{begun_with}
 use Rattle.daide_run_laws.proofs.TimedSessions.{PortsSetTimers, own, KeepsStall, step_stall, made_or_spent}
@@ -387,7 +387,7 @@ pub deadlines_pass_seldom : {P S N C : Type 0} (port_transition : P → PortCall
     DeadlinesPassSeldom port_transition timers network
 deadlines_pass_seldom port_transition timers keeps network =
     λ settings answers mid late place idle stall begun last from sessions clock.
-    let at = begun_with network timers from.session.ports answers begun last sessions from.session.came in (
+    let at = begun_with network timers from.session.place from.session.ports answers begun last sessions from.session.came in (
       overdue_left port_transition timers keeps idle stall late mid place.1 from.since clock
           (set_by port_transition timers keeps idle stall from.early (fresh from.session.ports settings.turns) mid from.before
           (begins_stall at.0 begun.times (timers from.session.ports) at.1)),

@@ -1,6 +1,6 @@
 -- A place that rests by the trace of a run is quiet by its table.
-use Rattle.std.proofs.Common.{◌≡◌, ◌≢◌, ℕ, zero, suc, ◌+◌, ◌*◌, ◌≤◌, ◌<◌, Bool, true, false, List, [], ◌∷◌, length, refl, sym, ap, ◌∙◌, subst, arith, eq-eqb}
-use Rattle.std.specs.Prelude.{◌||◌, ◌==◌, if◌then◌else◌, Option, Some, None, slice_get, slice_set}
+use Rattle.std.proofs.Common.{◌≡◌, ◌≢◌, ℕ, zero, suc, ◌<◌, Bool, true, false, List, [], ◌∷◌, length, refl, sym, ap, ◌∙◌, subst, arith, eq-eqb}
+use Rattle.std.specs.Prelude.{◌||◌, ◌&&◌, not, ◌==◌, if◌then◌else◌, Option, Some, slice_get, slice_set}
 use Rattle.std.specs.declared.time.Instant.{Instant}
 use Rattle.daide_frame.specs.declared.side.Side.{Side}
 use Rattle.daide_frame.specs.declared.side.Side.TheVariants.{Bot, Server}
@@ -10,10 +10,19 @@ use Rattle.daide_io.specs.Streams.{StreamCall}
 use Rattle.daide_io.specs.System.{SystemCall, Polls, Shows, Accepts, Connects, BeginsTurn, Rests, Retires, Notifies}
 use Rattle.daide_io.specs.System.{TransitsBy, is_about, last_about}
 use Rattle.daide_buffered_io.specs.declared.readiness.Readiness.{Readiness}
-use Rattle.daide_sockets.specs.Sockets.{has_socket_work}
-use Rattle.daide_sockets.specs.Table.{Table, Row, row_at, row_or_free, no_report, report_at, has_report, key_of, deadline_at}
-use Rattle.daide_sockets.specs.Table.{deadline_in, resting, without_report, without_reports}
+use Rattle.daide_sockets.specs.Sockets.{has_socket_work, is_some_byte}
+use Rattle.daide_sockets.specs.Table.{Table, row_at, row_or_free, no_report, report_at, has_report, is_reported_at, key_of, deadline_at}
+use Rattle.daide_sockets.specs.Table.{AreDeadlinesBounded, deadline_in, resting, without_report, without_reports}
 use Rattle.daide_sockets.specs.Wakeups.{Wakes, RestsFor, KeepsPlace, SessionSockets, may_go_on, may_session_go_on, session_due}
+use Rattle.daide_run_laws.specs.NoLostWakeups.{socket_at}
+
+left_false : (a b : Bool) → (a || b) ≡ false → a ≡ false
+left_false false b e = refl
+left_false true b e = absurd (cc)
+
+right_false : (a b : Bool) → (a || b) ≡ false → b ≡ false
+right_false false b e = e
+right_false true b e = absurd (cc)
 
 -- nothing may be done at once for the session at a place, and the place has the session's deadline
 pub record IsQuiet {S : Type 0} (table : Table) (place : ℕ) (session : SessionSockets S) : Type 0 where
@@ -25,12 +34,39 @@ kept : {S : Type 0} (old : Table) (place : ℕ) (new : Table) (session : Session
     IsQuiet old place session → IsQuiet new place session
 kept old place new session keeps quiet = record {
   none = ap (λ (r : Readiness). (has_report r || has_socket_work session.bot.stream session.bot.readiness session.bot.tries_again) || may_go_on new (key_of place Server) session.server) (keeps.reports Bot)
-    ∙ ap (λ (r : Readiness). may_go_on old (key_of place Bot) session.bot || (has_report r || has_socket_work session.server.stream session.server.readiness session.server.tries_again)) (keeps.reports Server)
-    ∙ quiet.none;
+      ∙ ap (λ (r : Readiness). may_go_on old (key_of place Bot) session.bot || (has_report r || has_socket_work session.server.stream session.server.readiness session.server.tries_again)) (keeps.reports Server)
+      ∙ quiet.none;
   due = keeps.deadline ∙ quiet.due;
 }
 
-set_other : {X : Type 0} (xs : List X) (i j : ℕ) (x : X) → i ≢ j → slice_get (slice_set xs i x) j ≡ slice_get xs j
+module _ {S : Type 0} (table : Table) (place : ℕ) (session : SessionSockets S) (quiet : IsQuiet table place session) where
+  still : (side : Side) → may_go_on table (key_of place side) (socket_at session side) ≡ false
+  still Bot = left_false (may_go_on table (key_of place Bot) session.bot) (may_go_on table (key_of place Server) session.server) quiet.none
+  still Server = right_false (may_go_on table (key_of place Bot) session.bot) (may_go_on table (key_of place Server) session.server) quiet.none
+
+  abbrev work : Side → Bool
+  work side = has_socket_work (socket_at session side).stream (socket_at session side).readiness (socket_at session side).tries_again
+
+  -- nothing is reported of either socket
+  pub none_reported : (side : Side) → is_reported_at table (key_of place side) ≡ false
+  none_reported side = left_false (is_reported_at table (key_of place side)) (work side) (still side)
+
+  pub no_tries : (side : Side) → (socket_at session side).tries_again ≡ false
+  no_tries side =
+      left_false (socket_at session side).tries_again
+      ((is_some_byte (socket_at session side).stream.write_buffer && not (socket_at session side).stream.has_failed)
+      && (socket_at session side).readiness.may_write)
+      (right_false (is_reported_at table (key_of place side)) (work side) (still side))
+
+  pub no_writes : (side : Side) → ((is_some_byte (socket_at session side).stream.write_buffer
+      && not (socket_at session side).stream.has_failed) && (socket_at session side).readiness.may_write) ≡ false
+  no_writes side =
+      right_false (socket_at session side).tries_again
+      ((is_some_byte (socket_at session side).stream.write_buffer && not (socket_at session side).stream.has_failed)
+      && (socket_at session side).readiness.may_write)
+      (right_false (is_reported_at table (key_of place side)) (work side) (still side))
+
+pub set_other : {X : Type 0} (xs : List X) (i j : ℕ) (x : X) → i ≢ j → slice_get (slice_set xs i x) j ≡ slice_get xs j
 set_other [] i j x e = refl
 set_other (y ∷ ys) zero zero x e = absurd (e refl)
 set_other (y ∷ ys) zero (suc j) x e = refl
@@ -48,7 +84,7 @@ different i j e h = absurd (let yes : (i == j) ≡ true = eq-eqb i j h in cc)
 -- another key keeps its report
 taken_other : (table : Table) (one key : ℕ) → one ≢ key → report_at (without_report table one) key ≡ report_at table key
 taken_other table one key ne =
-    ap (λ (r : Option Row). (row_or_free r).report) (set_other table.rows one key (record (row_at table.rows one) { report = no_report }) ne)
+    ap (λ r. (row_or_free r).report) (set_other table.rows one key (record (row_at table.rows one) { report = no_report }) ne)
 
 keys_differ : (one other : ℕ) (side at : Side) → one ≢ other → key_of one side ≢ key_of other at
 keys_differ one other Bot Bot ne h = ne (omega (arith, h))
@@ -60,7 +96,7 @@ keys_differ one other Server Server ne h = ne (omega (arith, h))
 taken : (old : Table) (place other : ℕ) → (place == other) ≡ false → KeepsPlace old other (without_reports old place)
 taken old place other e = record {
   reports = λ side. taken_other (without_report old (key_of place Bot)) (key_of place Server) (key_of other side) (keys_differ place other Server side (different place other e))
-    ∙ taken_other old (key_of place Bot) (key_of other side) (keys_differ place other Bot side (different place other e));
+      ∙ taken_other old (key_of place Bot) (key_of other side) (keys_differ place other Bot side (different place other e));
   deadline = refl;
 }
 
@@ -135,3 +171,15 @@ module _ {P S N C : Type 0} (transition : N → NetworkCall C → N → Type 0) 
   rests_quiet (call ∷ trace) old new last place l h quiet =
       rests_quiet trace h.0 new (if is_about place call then Some call else last) place
       (subst (λ (n : ℕ). place < n) (sym h.1.0.places) l) h.2 (step old h.0 call last place l h.1 quiet)
+
+  -- each call keeps the number of places
+  pub places_kept : (trace : List (SystemCall P)) (old new : N × Table) → TransitsBy (Wakes transition calls view) old trace new →
+      length new.1.deadlines ≡ length old.1.deadlines
+  places_kept [] old new h = ap (λ (s : N × Table). length s.1.deadlines) h
+  places_kept (call ∷ trace) old new h = places_kept trace h.0 new h.2 ∙ h.1.0.places
+
+  -- after any call no place has a deadline before `due`
+  pub bounded_after : (call : SystemCall P) (trace : List (SystemCall P)) (old new : N × Table) →
+      TransitsBy (Wakes transition calls view) old (call ∷ trace) new → AreDeadlinesBounded new.1
+  bounded_after call [] old new h = subst (λ (s : N × Table). AreDeadlinesBounded s.1) (sym h.2) h.1.0.bounded
+  bounded_after call (next ∷ trace) old new h = bounded_after next trace h.0 new h.2

@@ -1,7 +1,7 @@
--- Every place is freed: the deadline that each session of a run over sockets has when the run waits, and how often its
--- deadlines can pass. (own)
+-- Every place is freed: the deadline that each session of a run over sockets has while a poll may block, the visit that it
+-- has once the deadline is past, and how often its deadlines can pass. (own)
 use Rattle.std.specs.Prelude.{◌≡◌, ◌≢◌, ◌≤◌, ◌<◌, ◌⊎◌, ℕ, ◌+◌, ◌-◌, ◌++◌, ◌&&◌, ◌||◌, not, max, Bool, true, false, List, [], ◌∷◌, length}
-use Rattle.std.specs.Prelude.{Option, Some, is_some, All}
+use Rattle.std.specs.Prelude.{Option, Some, is_some}
 use Rattle.std.specs.Duration.{as_nanos}
 use Rattle.std.specs.Time.{instant_nanos, FitsClock}
 use Rattle.std.specs.declared.time.Duration.{Duration}
@@ -9,23 +9,26 @@ use Rattle.std.specs.declared.time.Instant.{Instant}
 use Rattle.daide_frame.specs.declared.side.Side.{Side}
 use Rattle.daide_frame.specs.Side.{same_side}
 use Rattle.daide_protocol.specs.Wires.{SessionView}
-use Rattle.daide_io.specs.ReadyQueue.{one_if}
+use Rattle.daide_io.specs.ReadyQueue.{one_if, is_among, is_queued}
 use Rattle.daide_io.specs.declared.ports.Put.TheVariants.{Took}
 use Rattle.daide_io.specs.Network.{NetworkCall}
 use Rattle.daide_io.specs.Ports.{PortCall, TurnBegins, Clock, Pulled, Offered, EvolvesBy}
-use Rattle.daide_io.specs.System.{SystemCall, Waits, TransitsBy}
+use Rattle.daide_io.specs.Streams.{StreamCall}
+use Rattle.daide_io.specs.System.{SystemCall, Polls, TransitsBy}
+use Rattle.daide_io.specs.declared.system.Orders.{Orders}
+use Rattle.daide_driver.specs.Slab.{IfHeldAt}
 use Rattle.daide_settings.specs.declared.settings.Settings.{Settings}
 use Rattle.daide_event_loop.specs.QuotaPorts.{QuotaPortsView, Meters}
-use Rattle.daide_event_loop.specs.Serving.{ServiceView, Round, Rounds, initial_service, is_done, fresh}
+use Rattle.daide_event_loop.specs.Serving.{ServiceView, Round, Rounds, initial_service, fresh}
 use Rattle.daide_event_loop.specs.Served.{IsServed}
 use Rattle.daide_sockets.specs.declared.socket.Socket.{Socket}
 use Rattle.daide_sockets.specs.InTime.{IsAtMost}
 use Rattle.daide_sockets.specs.Sockets.{due_after}
-use Rattle.daide_sockets.specs.Table.{Table, IsNoTime}
+use Rattle.daide_sockets.specs.Table.{Table}
 use Rattle.daide_sockets.specs.Scheduling.{RunState, Schedules}
 use Rattle.daide_sockets.specs.Timers.{SessionTimers, is_got}
 use Rattle.daide_sockets.specs.Times.{IsSeconds, IsIdleTime, is_past}
-use Rattle.daide_sockets.specs.Wakeups.{Wakes, RestsOnce, session_due}
+use Rattle.daide_sockets.specs.Wakeups.{Wakes, PollsForPlaces, session_due}
 use Rattle.daide_run_laws.specs.NoLostWakeups.{socket_at}
 
 -- ---- the premises
@@ -54,7 +57,7 @@ pub record IsLater (idle stall : Duration) (reading later : Option Instant) : Ty
   pub is : IsReading idle stall later now
   pub order : instant_nanos before ≤ instant_nanos now
 
--- ---- at a wait
+-- ---- at a poll
 
 -- The session has a nearest deadline, at most the longer of its timeouts after the reading at which its last turn began.
 -- A poll for this time ends by it.
@@ -140,33 +143,36 @@ module _ {P S : Type 0} (transition : P → PortCall → P → Type 0) (timers :
     pub before : EvolvesBy (Meters transition) (fresh session.ports settings.turns) early mid
     pub since : EvolvesBy (Meters transition) mid late place.1
 
-  -- ---- a wait
+  -- ---- a poll
 
-  -- The network is polled once, for the time of a wait that watches others beside the sessions. For no time, or else each
-  -- session, while the clock goes on, has a deadline, by the timeouts of the settings.
-  pub record WaitsByDeadlines {N C : Type 0} (network : N → NetworkCall C → N → Type 0) (settings : Settings)
-      (answers : List (SystemCall P)) (places : List (SessionView × QuotaPortsView P)) (old new : N × Table) : Type 0 where
+  -- The network is polled once, for the time of a poll that watches others beside the places. If it may block, each
+  -- session, while the clock goes on, has a deadline, by the timeouts of the settings. Each session that rests while its
+  -- deadline is past at the reading of this poll is woken.
+  pub record PollsByDeadlines {N C : Type 0} (network : N → NetworkCall C → N → Type 0) (settings : Settings)
+      (calls : List (SystemCall P)) (run : ServiceView P) (may_block : Bool) (woken : List ℕ) (old new : N × Table) : Type 0 where
     pub idle : Duration
     pub stall : Duration
     pub idle_lasts : IsSeconds settings.idle_seconds idle
     pub stall_lasts : IsSeconds settings.stall_seconds stall
     pub others : List (Bool × Option Instant)
-    pub rests : RestsOnce network others old.0 old.1 new.0 new.1
-    pub deadlines : IsNoTime rests.time ⊎ All (λ place. IsTimed settings answers idle stall place →
-        HasDeadline idle stall old.1 rests.time (timers place.1.ports)) places
+    pub polls : PollsForPlaces network others may_block woken old.0 old.1 new.0 new.1
+    pub deadlines : may_block ≡ true → (place : ℕ) → IfHeldAt run.slab.places place (λ held.
+        IsTimed settings calls idle stall held → HasDeadline idle stall old.1 polls.time (timers held.1.ports))
+    pub late : (place : ℕ) → is_queued run.ready place ≡ false → IfHeldAt run.slab.places place (λ held.
+        is_past new.1.reading (session_due (timers held.1.ports).sockets) ≡ true → is_among place woken ≡ true)
 
-  -- In each round of a run over sockets that ends with a wait, the run waits by deadlines, if its settings have both
-  -- timeouts. Its sockets began with those of the settings.
-  abbrev pub NoSessionWaitsForEver : {N C : Type 0} → (N → NetworkCall C → N → Type 0) → Type 0
-  NoSessionWaitsForEver {N} network = (settings : Settings) (n : ℕ) (before round : List (SystemCall P))
-      (mid run : ServiceView P) (first old new : N × Table) (begun last : RunState N S) →
-      settings.idle_seconds ≢ 0 → settings.stall_seconds ≢ 0 → AreTimesOf settings begun.times →
-      Rounds transition n (initial_service settings) before mid → is_done mid ≡ false →
-      Round transition mid (round ++ Waits ∷ []) run →
-      TransitsBy (Schedules network timers) begun (before ++ round ++ Waits ∷ []) last →
-      TransitsBy (Wakes network (λ ports. (timers ports).sockets)) first (before ++ round) old →
-      Wakes network (λ ports. (timers ports).sockets) old Waits new →
-      WaitsByDeadlines network settings (before ++ round ++ Waits ∷ []) run.hub.places old new
+  -- Each poll of a run over sockets, whose settings have both timeouts, is made by deadlines. Its sockets began with the
+  -- timeouts of the settings, and a table has a deadline for each place.
+  abbrev pub NoSessionWaitsForEver : {N C : Type 0} → (S → Option (List StreamCall)) → (N → NetworkCall C → N → Type 0) → Type 0
+  NoSessionWaitsForEver {N} calls network = (settings : Settings) (n : ℕ) (before others : List (SystemCall P))
+      (may_block : Bool) (woken : List ℕ) (orders : Orders) (run next : ServiceView P) (first old new : N × Table)
+      (begun last : RunState N S) → settings.idle_seconds ≢ 0 → settings.stall_seconds ≢ 0 → AreTimesOf settings begun.times →
+      Rounds transition n (initial_service settings) before run →
+      Round transition run (Polls may_block woken orders ∷ others) next → length first.1.deadlines ≡ settings.max_sessions →
+      TransitsBy (Schedules network timers) begun before last →
+      TransitsBy (Wakes network calls (λ ports. (timers ports).sockets)) first before old →
+      Wakes network calls (λ ports. (timers ports).sockets) old (Polls may_block woken orders) new →
+      PollsByDeadlines network settings before run may_block woken old new
 
   -- ---- turns without a byte
 

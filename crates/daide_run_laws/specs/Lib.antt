@@ -1,5 +1,4 @@
 pub mod NoLostWakeups
 pub mod FreedPlaces
 pub mod Room
-pub mod RunRows
 pub mod FinishTime

@@ -5,7 +5,6 @@ ghost use Rattle.daide_run_laws.specs.FinishTime.{FinishingSocketsLeave};
 ghost use Rattle.daide_run_laws.specs.FreedPlaces.{NoSessionWaitsForEver, TimeoutsStay, DeadlinesPassSeldom};
 ghost use Rattle.daide_run_laws.specs.NoLostWakeups.{NoWakeupIsLost, NoBotWaits};
 ghost use Rattle.daide_run_laws.specs.Room.{EachBotHasRoom};
-ghost use Rattle.daide_run_laws.specs.RunRows.{EachRowIsHeld};
 
 use daide_io::duplex::Duplex;
 use daide_io::network::Network;
@@ -13,11 +12,10 @@ use daide_io::ports::Ports;
 use daide_log::{Recording, Sink};
 use daide_sockets::ports::SocketPorts;
 
-/// No wake-up is lost. At each wait of a run over sockets the network is polled once, and what it reports is in the rows.
-/// Unless it is polled for no time at all, each session sleeps (`Sleeps`): polls reported nothing of its sockets that was
-/// not taken. From each side for whose bytes it has room, its socket is not readable, and nothing was read ahead. To each
-/// side for which bytes are queued or buffered, its socket is not writable. The poll ends by the nearest deadline of the
-/// session.
+/// No wake-up is lost. At each poll of a run over sockets that may block the network is polled once, and what it reports is
+/// in the rows. Each session sleeps (`Sleeps`): polls reported nothing of its sockets that was not taken. From each side
+/// for whose bytes it has room, its socket is not readable, and nothing was read ahead. To each side for which bytes are
+/// queued or buffered, its socket is not writable. The poll ends by the nearest deadline of the session.
 ///
 /// The ports are those that ship, over any two streams, and `N` is the network. The calls of the run have their effect on
 /// it and on the table as the sockets' own `transition` says (`Wakes`).
@@ -30,7 +28,7 @@ pub fn no_wakeup_is_lost<S: Duplex + Drop, N: Network>()
       server = ports.server;
       reading = ports.idle.reading;
       im_due = ports.im_due;
-    }) N.transition }
+    }) S.calls N.transition }
 {}
 
 /// The same of a run that records its sessions: the ports are those around which a record is, over any two streams.
@@ -40,12 +38,12 @@ pub fn no_wakeup_is_lost_beside_records<S: Duplex + Drop, N: Network, W: Sink + 
       server = ports.ports.server;
       reading = ports.ports.idle.reading;
       im_due = ports.ports.im_due;
-    }) N.transition }
+    }) S.calls N.transition }
 {}
 
-/// No bot waits. Take a round of a run over sockets that ends with a wait, and in which one more bot may be accepted. The wait
-/// takes no time while an accept is due: while the listener is ready and no pause of accepts is under way, or the pause is
-/// over. In the round exactly one accept was made, if one was due and the sockets had room for a bot (`AsksListener`).
+/// No bot waits. Take a poll of a run over sockets that may block, after one round or more, while one more bot may be accepted
+/// and a place is free. It takes no time while an accept is due: while the listener is ready and no pause of accepts is under
+/// way, or the pause is over. In each round that accepts exactly one accept is made, if it is due (`each_bot_has_room`).
 pub fn no_bot_waits<S: Duplex + Drop, N: Network>()
     ensures { NoBotWaits ⟦<SocketPorts<'static, S> as Ports>⟧.transition timers_of N.transition }
 {}
@@ -56,16 +54,12 @@ pub fn no_bot_waits_beside_records<S: Duplex + Drop, N: Network, W: Sink + Drop>
         N.transition }
 {}
 
-/// The sockets have room for each bot that the loop may accept. Take a run over sockets with no bot yet, any number of rounds,
-/// and an accept of its loop. The bots and the connects under way are as many as the loop counts. Two sockets for each
-/// session, two for each connect, those that close, the two listeners, four control connections, and two for one bot more are
-/// at most as many as the table of the run has rows (`HasRoomForNext`; `bind_sockets`: `rows`). The list of connects has room
-/// too, so exactly one accept is made whenever it is due, and then only connects for its bot (`AcceptsThenConnects`).
+/// The sockets have room for each bot that the loop may accept. Take a run over sockets with no bot yet, whose closing
+/// streams have rows of their own, any number of rounds, and one more that accepts. No connect is pending at the place that
+/// the loop chose, and a number is left for the bot (`HasRoomForBot`). So exactly one accept is made whenever it is due,
+/// and then only connects for its bot (`AcceptsThenConnects`). The rows of both sockets are those of the place.
 ///
-/// The list keeps the room with which it was created: for all sessions (`Sockets::new`: `room`). A run has at most 2^32 - 1
-/// bots.
-///
-/// That each taken row is that of one of these sockets is `each_row_is_held`.
+/// A run has at most 2^32 - 1 bots.
 pub fn each_bot_has_room<S: Duplex + Drop, N: Network>()
     ensures { EachBotHasRoom ⟦<SocketPorts<'static, S> as Ports>⟧.transition N.transition S.to_give S.taken S.calls
         (λ ports. ports) }
@@ -77,44 +71,24 @@ pub fn each_bot_has_room_beside_records<S: Duplex + Drop, N: Network, W: Sink + 
         S.calls (λ ports. ports.ports) }
 {}
 
-/// No row of the table leaks in a run, and no two sockets share one. Take a run over sockets, and any number of rounds. After
-/// them the taken rows are exactly those of its sockets, one for each (`HoldsItsRows`). Each session of the loop has two. Each
-/// bot that waits for its connect has one, and that connect has another. Each closing socket has one, and so have the control
-/// socket and each of its connections, and the listener until it is closed.
-///
-/// The sockets of a run begin with the rows of their listeners (`Sockets::new`: `rows`). Each call says which rows change
-/// hands, as the sockets' own `transition` says (`HandsAlong`; the law `no_row_leaks` is about any such calls). The loop
-/// retires the ports that it got, and no call of ports changes the keys of their sockets (`Settles`).
-pub fn each_row_is_held<S: Duplex + Drop, N: Network>()
-    ensures { EachRowIsHeld ⟦<SocketPorts<'static, S> as Ports>⟧.transition N.transition S.to_give S.taken S.calls
-        (λ ports. ports) }
-{}
-
-/// The same of a run that records its sessions.
-pub fn each_row_is_held_beside_records<S: Duplex + Drop, N: Network, W: Sink + Drop>()
-    ensures { EachRowIsHeld ⟦<Recording<SocketPorts<'static, S>, W> as Ports>⟧.transition N.transition S.to_give S.taken
-        S.calls (λ ports. ports.ports) }
-{}
-
-/// No session waits for ever. Take a run over sockets whose settings have an idle timeout and a stall timeout, and a session
-/// of it. Its clock goes on: the session begins at a reading, and each of its turns at a reading that is not before the one
-/// of the turn before (`ClockGoesOn`). At each wait of the run that is not for no time at all, the session has a nearest
-/// deadline. It is at most the longer of the two timeouts after the reading of its last turn, and the poll ends by it
-/// (`HasDeadline`). What its peers do is in no premise.
+/// No session waits for ever. Take a run over sockets whose settings have an idle timeout and a stall timeout, and a
+/// session of it. Its clock goes on: the session begins at a reading, and each of its turns at a reading that is not before
+/// the one of the turn before (`ClockGoesOn`). At each poll of the run that may block the session has a nearest deadline.
+/// It is at most the longer of the two timeouts after the reading of its last turn, and the poll ends by it
+/// (`HasDeadline`). A session at rest whose deadline is past at the reading of a poll, which may block or not, is woken by
+/// the poll, and so has a turn after as many rounds as `ready_places_advance` says. What its peers do is in no premise.
 ///
 /// The calls of the run have their effect on the network and the table (`Wakes`), and schedule (`Schedules`), as the sockets'
 /// own `transition` says: so each session began with the timeouts of the run, which are those of the settings
 /// (`Sockets::new`: `idle_time`, `stall_time`).
-///
-/// Not said: that a session has a turn once its deadline is past. That is by `Sockets::has_news`.
 pub fn no_session_waits_for_ever<S: Duplex + Drop, N: Network>()
-    ensures { NoSessionWaitsForEver ⟦<SocketPorts<'static, S> as Ports>⟧.transition timers_of N.transition }
+    ensures { NoSessionWaitsForEver ⟦<SocketPorts<'static, S> as Ports>⟧.transition timers_of S.calls N.transition }
 {}
 
 /// The same of a run that records its sessions.
 pub fn no_session_waits_for_ever_beside_records<S: Duplex + Drop, N: Network, W: Sink + Drop>()
     ensures { NoSessionWaitsForEver ⟦<Recording<SocketPorts<'static, S>, W> as Ports>⟧.transition
-        (λ ports. timers_of ports.ports) N.transition }
+        (λ ports. timers_of ports.ports) S.calls N.transition }
 {}
 
 /// The timeouts of a session stay while no byte moves. Take any calls of a session's ports in a run by which no byte comes

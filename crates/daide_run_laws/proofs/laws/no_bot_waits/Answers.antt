@@ -2,4 +2,4 @@ use Rattle.daide_run_laws.proofs.AwaitedLemmas.{no_bot_waits}
 use Rattle.daide_run_laws.proofs.laws.no_bot_waits.Goals as goal
 
 pub returns : goal.returns
-returns g c = no_bot_waits _ g.N.Network.transition _
+returns g c = no_bot_waits _ _ g.N.Network.transition
