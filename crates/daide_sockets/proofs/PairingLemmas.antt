@@ -1,7 +1,7 @@
 -- What calls do to the bots whose connects are pending.
 use Rattle.std.proofs.Common.{◌≡◌, ℕ, zero, suc, ◌+◌, Bool, true, false, List, [], ◌∷◌, refl, sym, ap, ◌∙◌, arith}
 use Rattle.std.proofs.Common.{◌⊎◌, Option, Some, None, inl, inr, subst}
-use Rattle.std.proofs.Common.{◌<◌, drop, get_or, length}
+use Rattle.std.proofs.Common.{◌<◌, ◌++◌, drop, get_or, length}
 use Rattle.std.proofs.Math.Seq.{drop-cons}
 use Rattle.std.specs.Prelude.{is_some, slice_get, slice_set}
 use Rattle.daide_sockets.specs.Lingering.{ClosingList}
@@ -170,3 +170,10 @@ module _ {S : Type 0} where
           × (some ≡ false → pending_connects (drop i arrivals) ≡ pending_connects (drop (i + 1) arrivals))
       by None same f = (λ yes. absurd (cc), λ no. let all = split None same in omega (arith, all))
       by (Some arrival) same f = (λ yes. let all = split (Some arrival) same in omega (arith, all), λ no. absurd (cc))
+
+  -- one more free place
+  pub none_more : (arrivals : List (Option (Arriving S))) → pending_connects arrivals ≡ 0 →
+      pending_connects (arrivals ++ None ∷ []) ≡ 0
+  none_more [] h = refl
+  none_more (None ∷ arrivals) h = let rest = none_more arrivals (omega (arith, h)) in omega (arith, rest)
+  none_more (Some arrival ∷ arrivals) h = absurd (omega (arith, h))
