@@ -20,6 +20,7 @@ use Rattle.daide_event_loop.specs.Served.{sum_over_calls}
 use Rattle.daide_event_loop.specs.Fairness.{RoundsAreShort, IsBehind, Advances, ReadyPlacesAdvance, turn_calls}
 use Rattle.daide_event_loop.proofs.CountLemmas.{counted_append, parts_count, none_shown, parting_count, rests_none}
 use Rattle.daide_event_loop.proofs.OrderLemmas.{admission_none}
+use Rattle.daide_event_loop.proofs.VisitLemmas.{visit_turns}
 
 -- ---- numbers
 
@@ -28,12 +29,6 @@ room_left turns e = grind (arith, nat_tests, e)
 
 room_gone : (turns : ℕ) → has_room turns ≡ false → 24 < turns
 room_gone turns e = grind (arith, nat_tests, e)
-
-some_room : (turns : ℕ) → turns ≤ 24 → has_room turns ≡ true
-some_room turns h = grind (arith, nat_tests, h)
-
-no_room : (turns : ℕ) → 24 < turns → has_room turns ≡ false
-no_room turns h = grind (arith, nat_tests, h)
 
 -- ---- a place of a list
 
@@ -57,20 +52,6 @@ nearer first xs (suc k) place h = inr (k, omega arith, h)
 -- ---- a visit
 
 module _ {P : Type 0} (port_transition : P → PortCall → P → Type 0) where
-  -- it counts one turn at least, and a quantum at most
-  visit_turns : (at : Option (SlabPlace (SessionView × QuotaPortsView P))) (old : ServiceView P) (place turns : ℕ) (answers : List (SystemCall P))
-      (new : ServiceView P) → VisitsBy port_transition at old place turns answers new → (0 < turns) × (turns ≤ 8)
-  visit_turns None old place turns answers new h = let one = h.0 in (omega (arith, one), omega (arith, one))
-  visit_turns (Some Free) old place turns answers new h = let one = h.0 in (omega (arith, one), omega (arith, one))
-  visit_turns (Some Kept) old place turns answers new h = by h.0 h.1 h.3
-    where
-      by : (connect : Connect P) (told : List (SystemCall P)) → MeetsBy port_transition connect old place turns told new →
-          (0 < turns) × (turns ≤ 8)
-      by (Ready ports) told m = (m.2.takes.some, m.2.takes.few)
-      by Failed told m = let one = m.0 in (omega (arith, one), omega (arith, one))
-      by Pending told m = let one = m.0 in (omega (arith, one), omega (arith, one))
-  visit_turns (Some (Held now)) old place turns answers new h = (h.takes.some, h.takes.few)
-
   -- the queue is as before, but that its place may have joined the end
   abbrev pub Rejoins : ℕ → ReadyView → ReadyView → Type 0
   Rejoins place old new = (new ≡ old) ⊎ (new ≡ put_back old place)
@@ -185,7 +166,7 @@ module _ {P : Type 0} (port_transition : P → PortCall → P → Type 0) where
   visits_short (place ∷ earlier) turns old answers new h =
       let sum = h.5 in
       let room = room_left h.1 h.8.room in
-      let few = (visit_turns _ _ place h.2 h.4 new h.8.visits).1 in
+      let few = (visit_turns port_transition _ _ place h.2 h.4 new h.8.visits).1 in
       omega (arith, sum, room, few)
 
   -- and the calls that begin them
@@ -279,7 +260,7 @@ module _ {P : Type 0} (port_transition : P → PortCall → P → Type 0) where
       rejoins = visited_queue _ _ other h.2 h.4 new h.8.visits
 
       few : h.2 ≤ 8
-      few = (visit_turns _ _ other h.2 h.4 new h.8.visits).1
+      few = (visit_turns port_transition _ _ other h.2 h.4 new h.8.visits).1
 
       sum : turns ≡ h.1 + h.2
       sum = h.5
@@ -324,7 +305,7 @@ module _ {P : Type 0} (port_transition : P → PortCall → P → Type 0) where
       rejoins = visited_queue _ _ other h.2 h.4 new h.8.visits
 
       few : h.2 ≤ 8
-      few = (visit_turns _ _ other h.2 h.4 new h.8.visits).1
+      few = (visit_turns port_transition _ _ other h.2 h.4 new h.8.visits).1
 
       sum : turns ≡ h.1 + h.2
       sum = h.5

@@ -1,7 +1,8 @@
 -- The sessions that are shown, the visits of a round so far, and the rounds of a run.
 use Rattle.std.proofs.Common.{◌≡◌, ℕ, zero, suc, ◌+◌, Bool, true, false, List, [], ◌∷◌, ◌++◌, Option, Some, None}
-use Rattle.std.proofs.Common.{refl, ap, ◌∙◌, subst, add-one, take, arith, ◌<◌, inr, sym, Result, Ok, Err}
-use Rattle.std.specs.Prelude.{length, slice_get, IfErr}
+use Rattle.std.proofs.Common.{refl, ap, ◌∙◌, subst, add-one, take, arith, ◌<◌, ◌≤◌, inr, sym, Result, Ok, Err}
+use Rattle.std.proofs.lemmas.Bool.Decides.{nat_tests}
+use Rattle.std.specs.Prelude.{length, slice_get, IfErr, OnErr}
 use Rattle.std.specs.Result.{IsErrAnd}
 use Rattle.daide_protocol.specs.Wires.{SessionView}
 use Rattle.daide_io.specs.Ports.{PortCall}
@@ -14,7 +15,7 @@ use Rattle.daide_io.specs.System.{SystemCall, Shows, TransitsBy, status_of}
 use Rattle.daide_settings.specs.declared.settings.Settings.{Settings}
 use Rattle.daide_event_loop.specs.declared.serving.ServeFault.{ServeFault}
 use Rattle.daide_event_loop.specs.declared.serving.ServeFault.TheVariants as Faults
-use Rattle.daide_event_loop.specs.Serving.{ServiceView, shows, Visits, VisitsNext, Round, Rounds, is_done, initial_service}
+use Rattle.daide_event_loop.specs.Serving.{ServiceView, shows, Visits, VisitsNext, VisitsReady, has_room, Round, Rounds, is_done, initial_service}
 use Rattle.daide_event_loop.specs.Serving.{BreaksOff, GivesUp}
 use Rattle.daide_event_loop.proofs.TransitLemmas.{transits_then}
 
@@ -73,6 +74,47 @@ module _ {P S : Type 0} (port_transition : P → PortCall → P → Type 0) (tra
     visits = (mid, before, more, h.answers, answers, refl, refl, h.visits, visits);
   }
 
+-- whether there is room for one visit more, as the code tests it
+pub some_room : (turns : ℕ) → turns + 8 ≤ 32 → has_room turns ≡ true
+some_room turns h = grind (arith, nat_tests, h)
+
+no_room : (turns : ℕ) → 32 < turns + 8 → has_room turns ≡ false
+no_room turns h = grind (arith, nat_tests, h)
+
+module _ {P S : Type 0} (port_transition : P → PortCall → P → Type 0) (transition : S → SystemCall P → S → Type 0) where
+  -- all visits of a round, with their trace
+  abbrev pub VisitedAll : S → ServiceView P → ServiceView P → S → Type 0
+  VisitedAll first old new system = (answers : List (SystemCall P)) × TransitsBy transition first answers system
+      × VisitsReady port_transition old answers new
+
+  -- no place is left in the queue
+  pub none_left : (s t : S) (old mid new : ServiceView P) (turns : ℕ) → Visited port_transition transition s old turns mid t → new ≡ mid →
+      queued_places new.ready ≡ [] → VisitedAll s old new t
+  none_left s t old mid new turns h same none = (
+    h.answers,
+    h.transits,
+    record {
+      visited = h.visited;
+      turns = turns;
+      takes = subst (λ (run : ServiceView P). Visits port_transition h.visited turns old h.answers run) (sym same) h.visits;
+      ends = λ room. none;
+    },
+  )
+
+  -- or the round had its turns
+  pub all_had : (s t : S) (old new : ServiceView P) (turns : ℕ) → Visited port_transition transition s old turns new t → 32 < turns + 8 →
+      VisitedAll s old new t
+  all_had s t old new turns h far = (
+    h.answers,
+    h.transits,
+    record {
+      visited = h.visited;
+      turns = turns;
+      takes = h.visits;
+      ends = λ room. absurd (let gone = no_room turns far in cc);
+    },
+  )
+
 -- ---- rounds
 
 module _ {P S : Type 0} (port_transition : P → PortCall → P → Type 0) (transition : S → SystemCall P → S → Type 0) where
@@ -124,3 +166,8 @@ pub at_memory : {A : Type 0} (r : Result A ServeFault) (fault : ServeFault) (Hol
     IsErrAnd r (λ told. told ≡ fault) → fault ≡ Faults.Memory → Holds Faults.Memory → IfErr r Holds
 at_memory (Ok x) fault Holds told e h = tt
 at_memory (Err other) fault Holds told e h = subst Holds (sym (told ∙ e)) h
+
+-- what holds in any case holds at an error
+pub at_error : {A E : Type 0} (r : Result A E) (P : Type 0) → P → OnErr r P
+at_error (Ok x) P h = tt
+at_error (Err e) P h = h

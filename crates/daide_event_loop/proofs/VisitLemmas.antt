@@ -1,6 +1,6 @@
 -- The steps of a visit, as the loop makes them, together are the visit.
-use Rattle.std.proofs.Common.{◌≡◌, ℕ, ◌<◌, Bool, true, false, List, [], ◌∷◌, ◌++◌, Option, Some, None}
-use Rattle.std.proofs.Common.{refl, sym, ap, ◌∙◌, subst}
+use Rattle.std.proofs.Common.{◌≡◌, ℕ, ◌<◌, ◌≤◌, Bool, true, false, List, [], ◌∷◌, ◌++◌, Option, Some, None}
+use Rattle.std.proofs.Common.{refl, sym, ap, ◌∙◌, subst, arith}
 use Rattle.std.specs.Prelude.{not, slice_get, if◌then◌else◌}
 use Rattle.daide_protocol.specs.declared.ending.Ending.{Ending}
 use Rattle.daide_protocol.specs.declared.account.Account.{Account}
@@ -10,6 +10,7 @@ use Rattle.daide_io.specs.declared.fault_field.FaultField.{FaultField}
 use Rattle.daide_io.specs.Ports.{PortCall}
 use Rattle.daide_io.specs.ReadyQueue.{put_back}
 use Rattle.daide_io.specs.declared.system.Connect.{Connect}
+use Rattle.daide_io.specs.declared.system.Connect.TheVariants.{Ready, Failed, Pending}
 use Rattle.daide_io.specs.System.{SystemCall, Connects, TransitsBy}
 use Rattle.daide_driver.specs.Hub.{IsReportedOf}
 use Rattle.daide_driver.specs.declared.place.SlabPlace.{SlabPlace}
@@ -127,6 +128,20 @@ module _ {P : Type 0} (port_transition : P → PortCall → P → Type 0) where
   visited_kept old place turns connect told new kept h =
       subst (λ (at : Option (SlabPlace (SessionView × QuotaPortsView P))). VisitsBy port_transition at old place turns (Connects place connect ∷ told) new)
       (sym kept) (connect, told, refl, h)
+
+  -- a visit counts one turn at least, and a quantum at most
+  pub visit_turns : (at : Option (SlabPlace (SessionView × QuotaPortsView P))) (old : ServiceView P) (place turns : ℕ) (answers : List (SystemCall P))
+      (new : ServiceView P) → VisitsBy port_transition at old place turns answers new → (0 < turns) × (turns ≤ 8)
+  visit_turns None old place turns answers new h = let one = h.0 in (omega (arith, one), omega (arith, one))
+  visit_turns (Some Free) old place turns answers new h = let one = h.0 in (omega (arith, one), omega (arith, one))
+  visit_turns (Some Kept) old place turns answers new h = by h.0 h.1 h.3
+    where
+      by : (connect : Connect P) (told : List (SystemCall P)) → MeetsBy port_transition connect old place turns told new →
+          (0 < turns) × (turns ≤ 8)
+      by (Ready ports) told m = (m.2.takes.some, m.2.takes.few)
+      by Failed told m = let one = m.0 in (omega (arith, one), omega (arith, one))
+      by Pending told m = let one = m.0 in (omega (arith, one), omega (arith, one))
+  visit_turns (Some (Held now)) old place turns answers new h = (h.takes.some, h.takes.few)
 
 -- a place that is kept
 pub kept_in : {T : Type 0} (at : Option (SlabPlace T)) → is_so is_kept at ≡ true → at ≡ Some Kept
