@@ -9,14 +9,18 @@ use Rattle.daide_io.specs.Ports.{PortCall}
 use Rattle.daide_io.specs.ReadyQueue.{queued_places}
 use Rattle.daide_driver.specs.declared.place.SlabPlace.{SlabPlace}
 use Rattle.daide_driver.specs.declared.place.SlabPlace.TheVariants.{Free, Kept, Held}
-use Rattle.daide_driver.specs.Slab.{is_so, is_held}
+use Rattle.daide_driver.specs.Slab.{is_so, is_at, is_held, IfHeldAt}
 use Rattle.daide_event_loop.specs.QuotaPorts.{QuotaPortsView}
-use Rattle.daide_io.specs.System.{SystemCall, Shows, TransitsBy, status_of}
+use Rattle.daide_io.specs.declared.byte_counts.ByteCounts.{ByteCounts}
+use Rattle.daide_io.specs.declared.system.Orders.{Orders}
+use Rattle.daide_io.specs.declared.system.SessionStatus.{SessionStatus}
+use Rattle.daide_io.specs.System.{SystemCall, Polls, Shows, TransitsBy, status_of}
 use Rattle.daide_settings.specs.declared.settings.Settings.{Settings}
 use Rattle.daide_event_loop.specs.declared.serving.ServeFault.{ServeFault}
 use Rattle.daide_event_loop.specs.declared.serving.ServeFault.TheVariants as Faults
-use Rattle.daide_event_loop.specs.Serving.{ServiceView, shows, Visits, VisitsNext, VisitsReady, has_room, Round, Rounds, is_done, initial_service}
+use Rattle.daide_event_loop.specs.Serving.{ServiceView, is_queue_empty, shows, shows_where, opening, Visits, VisitsNext, VisitsReady, has_room, Round, Rounds, is_done, initial_service}
 use Rattle.daide_event_loop.specs.Serving.{BreaksOff, GivesUp}
+use Rattle.daide_event_loop.proofs.BeginningLemmas.{held_in}
 use Rattle.daide_event_loop.proofs.TransitLemmas.{transits_then}
 
 -- ---- sessions are shown
@@ -50,6 +54,24 @@ module _ {P : Type 0} where
   show_none (Kept ∷ xs) (suc i) e = show_none xs i e
   show_none (Held now ∷ xs) (suc i) e =
       ap (λ (calls : List (SystemCall P)). Shows now.1.ports (status_of now.0 now.1.bytes) ∷ calls) (show_none xs i e)
+
+module _ {P S : Type 0} (transition : S → SystemCall P → S → Type 0) where
+  -- the call for one more session, by what the slab returned of it
+  pub shown : (first s t : S) (places : List (SlabPlace (SessionView × QuotaPortsView P))) (i : ℕ) (session : SessionView)
+      (own : QuotaPortsView P) (ports : P) (bytes : ByteCounts) (status : SessionStatus) →
+      is_at is_held places i ≡ true → IfHeldAt places i (λ held. session ≡ held.0) → IfHeldAt places i (λ held. own ≡ held.1) →
+      ports ≡ own.ports → bytes ≡ own.bytes → status ≡ status_of session bytes →
+      TransitsBy transition first (shows (take i places)) s → transition s (Shows ports status) t →
+      TransitsBy transition first (shows (take (suc i) places)) t
+  shown first s t places i session own ports bytes status held is_session is_own is_ports is_bytes is_status before shows_it =
+      let found = held_in (slice_get places i) held in
+      let now = found.0 in
+      let a : session ≡ now.0 = is_session now found.1 in
+      let b : own ≡ now.1 = is_own now found.1 in
+      let call : Shows ports status ≡ Shows now.1.ports (status_of now.0 now.1.bytes) = cc in
+      rw (show_more places i now found.1)
+      (transits_then transition (shows (take i places)) (Shows now.1.ports (status_of now.0 now.1.bytes) ∷ []) first s t before
+      (t, subst (λ (one : SystemCall P). transition s one t) call shows_it, refl))
 
 -- ---- the visits of a round
 
@@ -116,6 +138,14 @@ module _ {P S : Type 0} (port_transition : P → PortCall → P → Type 0) (tra
   )
 
 -- ---- rounds
+
+-- a round begins with a poll, and with the sessions that are shown
+pub opened : {P S : Type 0} (transition : S → SystemCall P → S → Type 0) (s t u : S) (run : ServiceView P) (may_block : Bool)
+    (woken : List ℕ) (orders : Orders) → may_block ≡ is_queue_empty run → transition s (Polls may_block woken orders) t →
+    TransitsBy transition t (shows_where orders.shows_sessions run.slab.places) u →
+    TransitsBy transition s (opening woken orders run) u
+opened transition s t u run may_block woken orders empty polls shows =
+    (t, subst (λ (b : Bool). transition s (Polls b woken orders) t) empty polls, shows)
 
 module _ {P S : Type 0} (port_transition : P → PortCall → P → Type 0) (transition : S → SystemCall P → S → Type 0) where
   -- the first n rounds, with their trace of system calls
