@@ -22,12 +22,6 @@ is_held Free = false
 is_held Kept = false
 is_held (Held held) = true
 
--- if it has something, this holds of it
-abbrev pub IfHeld : {T : Type 0} → (T → Type 0) → SlabPlace T → Type 0
-IfHeld Holds Free = Unit {0}
-IfHeld Holds Kept = Unit {0}
-IfHeld Holds (Held held) = Holds held
-
 -- the same with another value of what it has
 abbrev pub held_as : {T U : Type 0} → (T → U) → SlabPlace T → SlabPlace U
 held_as view Free = Free

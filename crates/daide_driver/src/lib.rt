@@ -1,9 +1,9 @@
 //! The driver of a session: one turn, many turns in a row, and many sessions in one loop.
 //!
 //! A session does no I/O. Its two wires and its clock are `Ports`, of `daide_protocol`. `turn_io` is one turn,
-//! `relaying` makes turns until the session is closed. `hub` holds sessions with their ports, in order, and `slab` holds them
-//! at places that they keep; each of them in a `slot`. `status` is what an operator sees of a session and of its fault. The contracts have the trace of the port calls as a parameter, whether
-//! the ports record it or not.
+//! `relaying` makes turns until the session is closed. `hub` holds sessions with their ports, in order, and `slab` holds
+//! them at places that they keep; each of them in a `slot`. `status` is what an operator sees of a session and of its
+//! fault. The contracts have the trace of the port calls as a parameter, whether the ports record it or not.
 #![tactic(auto)]
 
 pub mod hub;

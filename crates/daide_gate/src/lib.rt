@@ -27,8 +27,8 @@ pub use daide_driver::{
 };
 pub use daide_io::ports::ClockEvent;
 pub use daide_io::{
-    ByteCounts, Cause, Connect, FaultField, Notice, Orders, Ports, Pull, Put, SessionEnd,
-    SessionStatus, System, ports, system,
+    ByteCounts, Cause, Connect, FaultField, Notice, Orders, Ports, Pull, Put, ReadyQueue,
+    SessionEnd, SessionStatus, System, ports, system,
 };
 pub use daide_protocol::{
     Account, BotName, Config, ConfigError, Deed, Ending, Note, Phase, SessionLimits, SideCounts,

@@ -1,6 +1,5 @@
 mod ExchangeLemmas
 mod StreamLemmas
 mod AcceptedLemmas
-mod RecordedLemmas
 pub mod RunLemmas
 mod LawFacts

@@ -8,7 +8,6 @@ use crate::relays::{NEVER, sent};
 use crate::script::WIDEST;
 use daide_driver::relaying::{RelayEnd, relay};
 use daide_frame::side::Side::{self, Bot, Server};
-use daide_io::interest::Interest;
 use daide_io::ports::{ClockEvent, Ports, Pull, Put};
 use daide_session::session::Session;
 use daide_test_support::memory_ports::{MemoryPorts, Script, ScriptedRead};
@@ -181,8 +180,6 @@ impl Breaking {
 impl Ports for Breaking {
     ghost transition = { λ _ _ _. Unit {0} };
 
-    ghost interest = { λ _ _. Unit {0} };
-
     fn pull(&mut self, side: Side, buffer: &mut [u8]) -> Pull {
         let (number, waits) = self.next_pull(side);
         if self.at.is_at(false, side, number) {
@@ -207,10 +204,6 @@ impl Ports for Breaking {
 
     fn clock(&mut self) -> ClockEvent {
         ClockEvent::NoEvent
-    }
-
-    fn interest(&self) -> Interest {
-        Interest::NONE
     }
 }
 

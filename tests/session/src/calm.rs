@@ -4,10 +4,10 @@ use crate::harness::settings;
 use crate::relays::{NEVER, QUIET};
 use daide_gate::serving::Service;
 use daide_gate::system::{Connect, Notice, Orders, SessionEnd, SessionStatus, System};
-use daide_io::interest::{GroupInterest, Interest};
+use daide_io::ready_queue::ReadyQueue;
 use daide_test_support::memory_ports::{Acceptance, MemoryPorts, Script, ScriptedRead};
 use daide_test_support::rows::same;
-use std::alloc::Global;
+use std::alloc::{Allocator, Global};
 use std::test::Fail;
 
 /// `HUH ( GOF .. )` with `GOF` 29 times: 68 bytes.
@@ -21,16 +21,19 @@ const MESSAGE: &[u8] = &[
     0x40, 0x01,
 ];
 
-/// A bot that sends its IM, and then a message.
+/// A bot that sends its IM, and then a message four times.
 const SPEAKS: Script<'static> = Script {
     pulls: &[
         ScriptedRead::Bytes(&[0, 0, 0, 4, 0, 1, 0xDA, 0x10]),
+        ScriptedRead::Bytes(MESSAGE),
+        ScriptedRead::Bytes(MESSAGE),
+        ScriptedRead::Bytes(MESSAGE),
         ScriptedRead::Bytes(MESSAGE),
     ],
     puts: &[],
 };
 
-/// A server that sends its RM once its session has the IM, and takes one byte in each turn: the IM and the message in 76
+/// A server that sends its RM once its session has the IM, and takes one byte in each turn: the IM and the messages in 280
 /// turns.
 const TAKES_SLOWLY: Script<'static> = Script {
     pulls: &[
@@ -39,95 +42,101 @@ const TAKES_SLOWLY: Script<'static> = Script {
         ScriptedRead::Idle,
         ScriptedRead::Bytes(&[1, 0, 0, 0]),
     ],
-    puts: &[Acceptance::Takes(1); 76],
+    puts: &[Acceptance::Takes(1); 280],
 };
 
-/// A system with news for each session. Its first bot and that one's server are quiet, and so calm from its second turn
-/// on; all further ones are busy.
+/// A system whose first bots and their servers are quiet, and so calm from their second turn on; all further ones are busy.
+/// Each poll wakes the calm ones.
 #[derive(Drop)]
 struct Crowd {
     alloc: Global,
-    /// The sessions that began.
+    /// The number of calm sessions, and how many of them began.
+    calm: usize,
     begun: usize,
-    /// The turns of the last round.
-    turns: usize,
+    /// The turns of calm sessions and of busy ones since the last poll.
+    turns: (usize, usize),
 }
 
 impl System<MemoryPorts<'static>> for Crowd {
     ghost transition = { λ _ _ _. Unit {0} };
 
-    fn begin_round(&mut self) -> Orders {
-        self.turns = 0;
+    fn poll<A: Allocator>(&mut self, _may_block: bool, ready: &mut ReadyQueue<A>) -> Orders {
+        self.turns = (0, 0);
+        for place in 0..self.begun {
+            ready.wake(place);
+        }
         Orders::NONE
     }
 
     fn show(&mut self, _ports: &MemoryPorts<'static>, _status: SessionStatus) {}
 
-    fn is_at_rest(&self, _interest: &Interest) -> bool {
-        false
-    }
-
-    fn are_at_rest(&self, _group: &GroupInterest) -> bool {
-        false
-    }
-
-    fn has_news(&mut self, _interest: &Interest) -> bool {
+    fn accept(&mut self, _place: usize) -> bool {
         true
     }
 
-    fn begin_turn(&mut self, ports: &mut MemoryPorts<'static>) {
-        self.turns = self.turns.saturating_add(1);
-        ports.begin_turn();
-    }
-
-    fn watch(&mut self, _interest: &Interest) {}
-
-    fn accept(&mut self) -> bool {
-        true
-    }
-
-    fn connected(&mut self) -> Connect<MemoryPorts<'static>> {
-        let (bot, server) = if self.begun == 0 {
+    fn connected(&mut self, place: usize) -> Connect<MemoryPorts<'static>> {
+        let (bot, server) = if place < self.calm {
+            self.begun = self.begun.saturating_add(1);
             (QUIET, QUIET)
         } else {
             (SPEAKS, TAKES_SLOWLY)
         };
-        self.begun = self.begun.saturating_add(1);
         Connect::Ready(MemoryPorts::new(self.alloc, bot, server, NEVER))
     }
 
-    fn retire(&mut self, _ports: MemoryPorts<'static>, _end: SessionEnd) {}
+    fn begin_turn(&mut self, place: usize, ports: &mut MemoryPorts<'static>) {
+        let turns = if place < self.calm {
+            &mut self.turns.0
+        } else {
+            &mut self.turns.1
+        };
+        *turns = turns.saturating_add(1);
+        ports.begin_turn();
+    }
+
+    fn rest(&mut self, _place: usize, _ports: &MemoryPorts<'static>) -> bool {
+        true
+    }
+
+    fn retire(&mut self, _place: usize, _ports: MemoryPorts<'static>, _end: SessionEnd) {}
 
     fn tell(&mut self, _notice: Notice) {}
-
-    fn wait(&mut self) {}
 }
 
-/// Returns the number of turns of a round with one calm session and `busy` busy ones.
-fn turns_beside(alloc: Global, busy: usize) -> Result<usize, Fail> {
-    let sessions = busy.saturating_add(1);
+/// Returns the turns of calm sessions and of busy ones in a round with this number of each.
+fn turns_beside(alloc: Global, calm: usize, busy: usize) -> Result<(usize, usize), Fail> {
+    let sessions = calm.saturating_add(busy);
     let settings = settings(alloc, (sessions, sessions as u32, 1_000))?;
     let mut service = Service::new(alloc, &settings)?;
     let mut crowd = Crowd {
         alloc,
+        calm,
         begun: 0,
-        turns: 0,
+        turns: (0, 0),
     };
-    for _round in 0..sessions.saturating_add(1) {
+    // A round accepts one bot. After a few more each had its first visit.
+    for _round in 0..sessions.saturating_add(6) {
         service.round(&mut crowd)?;
     }
-    same(&crowd.begun, &sessions, &"sessions")?;
     Ok(crowd.turns)
 }
 
-/// The number of busy sessions | the turns of a round.
-const TURNS: &[(usize, usize)] = &[(1, 5), (7, 29), (8, 34), (15, 62), (16, 67)];
+/// The numbers of calm and of busy sessions | their turns in a round. Visits begin up to the 24th turn. Calm sessions come
+/// first, with one turn each, but for the last 8 turns; a busy one has 8 turns in a visit.
+#[rattlefmt::skip]
+const TURNS: &[((usize, usize), (usize, usize))] = &[
+    ((1, 1), (1, 24)),
+    ((1, 16), (1, 24)),
+    ((40, 0), (25, 0)),
+    ((40, 1), (17, 8)),
+    ((40, 16), (17, 8)),
+];
 
-/// The calm session has a turn at its place, and one more after each 32 turns of busy ones, four of each.
 #[test]
-fn calm_session_has_a_turn_after_32_busy_ones(rt: HostRuntime) -> Result<(), Fail> {
-    for (busy, turns) in TURNS {
-        same(&turns_beside(rt.alloc(), *busy)?, turns, busy)?;
+fn calm_sessions_come_first_and_leave_a_share(rt: HostRuntime) -> Result<(), Fail> {
+    for (sessions, turns) in TURNS {
+        let (calm, busy) = *sessions;
+        same(&turns_beside(rt.alloc(), calm, busy)?, turns, sessions)?;
     }
     Ok(())
 }

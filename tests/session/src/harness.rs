@@ -1,14 +1,14 @@
-//! A system that plays a scene: accepts, connects, news and orders by a script. It records the calls of its run.
+//! A system that plays a scene: polls, accepts, connects and orders by a script. It records the calls of its run.
 
 use crate::relays::{NEVER, QUIET};
 use daide_gate::serving::serve;
 use daide_gate::settings::{Settings, read_settings};
 use daide_gate::system::{Cause, Connect, Notice, Orders, SessionEnd, SessionStatus, System};
 use daide_gate::{ByteCounts, FaultField, Level, Phase, SideCounts, Summary};
-use daide_io::interest::{GroupInterest, Interest};
+use daide_io::ready_queue::ReadyQueue;
 use daide_test_support::memory_ports::{Call, MemoryPorts, Script, ScriptedRead};
 use daide_test_support::rows::holds;
-use std::alloc::Global;
+use std::alloc::{Allocator, Global};
 use std::test::Fail;
 
 /// The result of a connect, in a script.
@@ -19,36 +19,39 @@ pub(crate) enum Fate {
     Pending,
 }
 
-/// A call of the system, with its result.
+/// A call of the system, with its place and its result.
 #[derive(Clone, Copy, PartialEq, Eq)]
 pub(crate) enum Event {
-    Begun,
+    /// A poll that may block.
+    Waits,
+    /// A poll that may not.
+    Looks,
     Shown,
-    News,
-    NoNews,
-    TurnBegun,
-    Watched,
-    Came,
-    NoneCame,
-    Ready,
-    Failed,
-    Pending,
-    Retired,
+    Came(usize),
+    NoneCame(usize),
+    Ready(usize),
+    Failed(usize),
+    Pending(usize),
+    Turn(usize),
+    Rests(usize),
+    Stays(usize),
+    Retired(usize),
     Told(Notice),
-    Waited,
 }
 
 /// The script of a run. After the last accept each further one returns a bot; after the last fate each connect
-/// succeeds; after the last report there is news each time; after the last orders there are none.
+/// succeeds; after the last poll each wakes all places that rest, in the order in which they began to; after the last
+/// result of `rest` each session rests; after the last orders there are none.
 #[derive(Clone, Copy)]
 pub(crate) struct Scene {
     pub(crate) accepts: &'static [bool],
     pub(crate) fates: &'static [Fate],
-    pub(crate) news: &'static [bool],
-    /// The number of first rounds in which each session whose interest is kept is at rest.
-    pub(crate) rests: usize,
+    /// The places that each poll wakes.
+    pub(crate) woken: &'static [&'static [usize]],
+    pub(crate) rests: &'static [bool],
     pub(crate) orders: &'static [Orders],
     pub(crate) bot: Script<'static>,
+    pub(crate) server: Script<'static>,
 }
 
 /// A status that was shown, without the name of its bot, and how many turns were begun with its ports.
@@ -65,15 +68,17 @@ pub(crate) struct Shown {
     pub(crate) bytes: ByteCounts,
 }
 
-/// A system that plays a scene. Its server is quiet.
+/// A system that plays a scene.
 #[derive(Drop)]
 pub(crate) struct Harness {
     alloc: Global,
     scene: Scene,
     accepts: usize,
     fates: usize,
-    news: usize,
-    orders: usize,
+    rests: usize,
+    polls: usize,
+    /// The places that rest: those of sessions, and those whose connect is pending.
+    resting: Vec<usize>,
     /// The number of bots that are connected, and the greatest number of them so far.
     pub(crate) held: usize,
     pub(crate) most: usize,
@@ -93,8 +98,9 @@ impl Harness {
             scene,
             accepts: 0,
             fates: 0,
-            news: 0,
-            orders: 0,
+            rests: 0,
+            polls: 0,
+            resting: Vec::new(alloc),
             held: 0,
             most: 0,
             events: Vec::new(alloc),
@@ -147,10 +153,28 @@ fn shown_of(turns: usize, status: SessionStatus) -> Shown {
 impl System<MemoryPorts<'static>> for Harness {
     ghost transition = { λ _ _ _. Unit {0} };
 
-    fn begin_round(&mut self) -> Orders {
-        self.note(Event::Begun);
-        let orders = self.scene.orders.get(self.orders);
-        self.orders = self.orders.saturating_add(1);
+    fn poll<A: Allocator>(&mut self, may_block: bool, ready: &mut ReadyQueue<A>) -> Orders {
+        self.note(if may_block {
+            Event::Waits
+        } else {
+            Event::Looks
+        });
+        match self.scene.woken.get(self.polls) {
+            Some(places) => {
+                for place in *places {
+                    self.resting.retain(|resting| *resting != *place);
+                    ready.wake(*place);
+                }
+            }
+            None => {
+                for place in &self.resting {
+                    ready.wake(*place);
+                }
+                self.resting.clear();
+            }
+        }
+        let orders = self.scene.orders.get(self.polls);
+        self.polls = self.polls.saturating_add(1);
         orders.copied().unwrap_or(Orders::NONE)
     }
 
@@ -160,31 +184,7 @@ impl System<MemoryPorts<'static>> for Harness {
         let _ = self.shown.push(shown);
     }
 
-    fn is_at_rest(&self, interest: &Interest) -> bool {
-        !interest.has_work() && self.orders <= self.scene.rests
-    }
-
-    fn are_at_rest(&self, _group: &GroupInterest) -> bool {
-        self.orders <= self.scene.rests
-    }
-
-    fn has_news(&mut self, _interest: &Interest) -> bool {
-        let news = self.scene.news.get(self.news).is_none_or(|news| *news);
-        self.news = self.news.saturating_add(1);
-        self.note(if news { Event::News } else { Event::NoNews });
-        news
-    }
-
-    fn begin_turn(&mut self, ports: &mut MemoryPorts<'static>) {
-        self.note(Event::TurnBegun);
-        ports.begin_turn();
-    }
-
-    fn watch(&mut self, _interest: &Interest) {
-        self.note(Event::Watched);
-    }
-
-    fn accept(&mut self) -> bool {
+    fn accept(&mut self, place: usize) -> bool {
         let came = self
             .scene
             .accepts
@@ -194,36 +194,55 @@ impl System<MemoryPorts<'static>> for Harness {
         if came {
             self.held = self.held.saturating_add(1);
             self.most = self.most.max(self.held);
-            self.note(Event::Came);
+            self.note(Event::Came(place));
         } else {
-            self.note(Event::NoneCame);
+            self.note(Event::NoneCame(place));
         }
         came
     }
 
-    fn connected(&mut self) -> Connect<MemoryPorts<'static>> {
+    fn connected(&mut self, place: usize) -> Connect<MemoryPorts<'static>> {
         let fate = self.scene.fates.get(self.fates);
         self.fates = self.fates.saturating_add(1);
         match fate {
             None | Some(Fate::Ready) => {
-                self.note(Event::Ready);
-                Connect::Ready(MemoryPorts::new(self.alloc, self.scene.bot, QUIET, NEVER))
+                self.note(Event::Ready(place));
+                let Scene { bot, server, .. } = self.scene;
+                Connect::Ready(MemoryPorts::new(self.alloc, bot, server, NEVER))
             }
             Some(Fate::Failed) => {
                 self.held = self.held.saturating_sub(1);
-                self.note(Event::Failed);
+                self.note(Event::Failed(place));
                 Connect::Failed
             }
             Some(Fate::Pending) => {
-                self.note(Event::Pending);
+                self.note(Event::Pending(place));
+                let _ = self.resting.push(place);
                 Connect::Pending
             }
         }
     }
 
-    fn retire(&mut self, ports: MemoryPorts<'static>, end: SessionEnd) {
+    fn begin_turn(&mut self, place: usize, ports: &mut MemoryPorts<'static>) {
+        self.note(Event::Turn(place));
+        ports.begin_turn();
+    }
+
+    fn rest(&mut self, place: usize, _ports: &MemoryPorts<'static>) -> bool {
+        let rests = self.scene.rests.get(self.rests).is_none_or(|rests| *rests);
+        self.rests = self.rests.saturating_add(1);
+        if rests {
+            self.note(Event::Rests(place));
+            let _ = self.resting.push(place);
+        } else {
+            self.note(Event::Stays(place));
+        }
+        rests
+    }
+
+    fn retire(&mut self, place: usize, ports: MemoryPorts<'static>, end: SessionEnd) {
         self.held = self.held.saturating_sub(1);
-        self.note(Event::Retired);
+        self.note(Event::Retired(place));
         let _ = self.retired.push(ports);
         let _ = self
             .ends
@@ -232,10 +251,6 @@ impl System<MemoryPorts<'static>> for Harness {
 
     fn tell(&mut self, notice: Notice) {
         self.note(Event::Told(notice));
-    }
-
-    fn wait(&mut self) {
-        self.note(Event::Waited);
     }
 }
 
@@ -261,10 +276,11 @@ pub(crate) const OPENS_ALONE: Script<'static> = Script {
 pub(crate) const ENDING: Scene = Scene {
     accepts: &[],
     fates: &[],
-    news: &[],
-    rests: 0,
+    woken: &[],
+    rests: &[],
     orders: &[],
     bot: ENDS,
+    server: QUIET,
 };
 
 /// The settings `max_sessions`, `sessions` and `turns`.

@@ -4,7 +4,6 @@ use crate::relays::{NEVER, OPENS, QUIET, assert_sent};
 use crate::script::{WIDEST, bytes_of};
 use daide_driver::hub::{AddFault, Hub, HubError};
 use daide_frame::side::Side::{self, Bot, Server};
-use daide_io::interest::Interest;
 use daide_io::ports::{ClockEvent, Ports, Pull, Put};
 use daide_protocol::config::{Config, ConfigError};
 use daide_test_support::memory_ports::{Acceptance, MemoryPorts, Script, ScriptedRead};
@@ -108,8 +107,6 @@ struct Feeding {
 impl Ports for Feeding {
     ghost transition = { λ _ _ _. Unit {0} };
 
-    ghost interest = { λ _ _. Unit {0} };
-
     fn pull(&mut self, side: Side, buffer: &mut [u8]) -> Pull {
         if side == Server || self.before > 0 {
             if side == Bot {
@@ -132,10 +129,6 @@ impl Ports for Feeding {
 
     fn clock(&mut self) -> ClockEvent {
         self.ports.clock()
-    }
-
-    fn interest(&self) -> Interest {
-        Interest::NONE
     }
 }
 

@@ -1,12 +1,12 @@
 //! The operator's orders in whole runs in memory: bots are accepted no more, and each session is shown.
 
 use crate::harness::{
-    ENDING, ENDS, ENDS_LATER, Event, Fate, Harness, Limits, Scene, Shown, assert_run, settings,
+    ENDING, ENDS_LATER, Event, Fate, Harness, Limits, Scene, Shown, assert_run, settings,
 };
 use daide_gate::serving::Service;
 use daide_gate::system::{Notice, Orders};
 use daide_gate::{ByteCounts, Level, Phase, SideCounts};
-use daide_test_support::memory_ports::{MemoryPorts, Script, ScriptedRead};
+use daide_test_support::memory_ports::{Acceptance, MemoryPorts, Script, ScriptedRead};
 use daide_test_support::rows::{holds, same};
 use std::alloc::Global;
 use std::test::Fail;
@@ -34,118 +34,97 @@ const SHOW: Orders = Orders {
 
 /// A scene with orders | its limits | the calls of the system.
 const ORDERED_RUNS: &[(Scene, Limits, &[Event])] = &[
-    // an order to stop before the first bot: the run is over, and does not wait
+    // an order to stop before the first bot: the run is over
     (
         Scene {
-            accepts: &[],
-            fates: &[],
-            news: &[],
-            rests: 0,
             orders: &[STOP],
-            bot: ENDS,
+            ..ENDING
         },
         (16, 9, 9),
-        &[Event::Begun],
+        &[Event::Waits],
     ),
     // with one session open and one connect pending: both go on to their ends, and no bot is accepted
     (
         Scene {
-            accepts: &[],
             fates: &[Fate::Ready, Fate::Pending, Fate::Ready],
-            news: &[],
-            rests: 0,
             orders: &[Orders::NONE, Orders::NONE, STOP],
             bot: ENDS_IN_ITS_FOURTH_TURN,
+            ..ENDING
         },
         (16, 9, 9),
         &[
-            Event::Begun,
-            Event::Came,
-            Event::Ready,
-            Event::TurnBegun,
-            Event::Watched,
-            Event::Begun,
-            Event::Came,
-            Event::Pending,
-            Event::News,
-            Event::TurnBegun,
-            Event::Watched,
-            Event::Begun,
-            Event::Ready,
-            Event::News,
-            Event::TurnBegun,
-            Event::Watched,
-            Event::TurnBegun,
-            Event::Watched,
-            Event::Begun,
-            Event::News,
-            Event::TurnBegun,
-            Event::TurnBegun,
-            Event::Watched,
-            Event::News,
-            Event::TurnBegun,
-            Event::Watched,
-            Event::Retired,
-            Event::Begun,
-            Event::News,
-            Event::TurnBegun,
-            Event::Watched,
-            Event::Waited,
-            Event::Begun,
-            Event::News,
-            Event::TurnBegun,
-            Event::TurnBegun,
-            Event::Watched,
-            Event::Retired,
+            Event::Waits,
+            Event::Came(0),
+            Event::Looks,
+            Event::Ready(0),
+            Event::Turn(0),
+            Event::Rests(0),
+            Event::Came(1),
+            Event::Looks,
+            Event::Pending(1),
+            Event::Turn(0),
+            Event::Rests(0),
+            Event::Waits,
+            Event::Ready(1),
+            Event::Turn(1),
+            Event::Rests(1),
+            Event::Turn(0),
+            Event::Rests(0),
+            Event::Waits,
+            Event::Turn(1),
+            Event::Rests(1),
+            Event::Turn(0),
+            Event::Turn(0),
+            Event::Retired(0),
+            Event::Waits,
+            Event::Turn(1),
+            Event::Rests(1),
+            Event::Waits,
+            Event::Turn(1),
+            Event::Turn(1),
+            Event::Retired(1),
         ],
     ),
     // with one connect pending, which fails: until then the run waits
     (
         Scene {
-            accepts: &[],
             fates: &[Fate::Pending, Fate::Pending, Fate::Failed],
-            news: &[],
-            rests: 0,
             orders: &[Orders::NONE, STOP],
-            bot: ENDS,
+            ..ENDING
         },
         (16, 9, 9),
         &[
-            Event::Begun,
-            Event::Came,
-            Event::Pending,
-            Event::Begun,
-            Event::Pending,
-            Event::Waited,
-            Event::Begun,
-            Event::Failed,
+            Event::Waits,
+            Event::Came(0),
+            Event::Looks,
+            Event::Pending(0),
+            Event::Waits,
+            Event::Pending(0),
+            Event::Waits,
+            Event::Failed(0),
             Event::Told(Notice::CannotReach),
         ],
     ),
-    // an order to show without a session, and with one
+    // an order to show without a bot, with one whose connect is pending, and with a session
     (
         Scene {
-            accepts: &[],
-            fates: &[],
-            news: &[],
-            rests: 0,
-            orders: &[SHOW, SHOW],
+            orders: &[SHOW, SHOW, SHOW],
             bot: ENDS_LATER,
+            ..ENDING
         },
         (1, 1, 9),
         &[
-            Event::Begun,
-            Event::Came,
-            Event::Ready,
-            Event::TurnBegun,
-            Event::Watched,
-            Event::Begun,
+            Event::Waits,
+            Event::Came(0),
+            Event::Looks,
+            Event::Ready(0),
+            Event::Turn(0),
+            Event::Rests(0),
+            Event::Waits,
             Event::Shown,
-            Event::News,
-            Event::TurnBegun,
-            Event::TurnBegun,
-            Event::Watched,
-            Event::Retired,
+            Event::Turn(0),
+            Event::Turn(0),
+            Event::Retired(0),
         ],
     ),
 ];
@@ -158,13 +137,14 @@ fn orders_are_heeded_round_by_round(rt: HostRuntime) -> Result<(), Fail> {
     Ok(())
 }
 
-/// A bot that sends its IM byte by byte, one in each turn, and nothing more.
+/// A bot that sends its IM byte by byte, one in each turn and none in the fifth, and nothing more.
 const OPENS_SLOWLY: Script<'static> = Script {
     pulls: &[
         ScriptedRead::Bytes(&[0]),
         ScriptedRead::Bytes(&[0]),
         ScriptedRead::Bytes(&[0]),
         ScriptedRead::Bytes(&[4]),
+        ScriptedRead::Idle,
         ScriptedRead::Bytes(&[0]),
         ScriptedRead::Bytes(&[1]),
         ScriptedRead::Bytes(&[0xDA]),
@@ -173,23 +153,31 @@ const OPENS_SLOWLY: Script<'static> = Script {
     puts: &[],
 };
 
-/// Three bots that send their IM byte by byte. A round accepts one of them, and the fourth and the fifth round show all.
+/// A server that takes nothing at first, and sends nothing.
+const TAKES_LATER: Script<'static> = Script {
+    pulls: &[],
+    puts: &[Acceptance::Takes(0)],
+};
+
+/// Three bots that send their IM byte by byte. A round accepts one of them, and the last three of five rounds show all.
 const SHOWN: Scene = Scene {
-    orders: &[Orders::NONE, Orders::NONE, Orders::NONE, SHOW, SHOW],
+    orders: &[Orders::NONE, Orders::NONE, SHOW, SHOW, SHOW],
     bot: OPENS_SLOWLY,
+    server: TAKES_LATER,
     ..ENDING
 };
 
 /// Turns begun | the phase | relayed frames from the bot | bytes queued for the server | bytes received from the bot | bytes
-/// sent to the server. A session that makes progress has four turns in a round, so its IM is read in two rounds. In the
-/// third the server takes both parts, and the third turn finds nothing more. From then on there is one in each round.
+/// sent to the server. A session has its turns while they make progress: five in its first round, in the last of which
+/// nothing arrives. In the second four more bytes are read, and the server takes none. In the third it takes both parts of
+/// the IM, and the last of three turns finds nothing more.
 const STATUSES: &[(usize, Phase, u64, usize, u64, u64)] = &[
-    (11, Phase::WaitRm, 1, 0, 8, 8),
-    (8, Phase::WaitRm, 1, 8, 8, 0),
-    (4, Phase::WaitIm, 0, 0, 4, 0),
-    (12, Phase::WaitRm, 1, 0, 8, 8),
-    (11, Phase::WaitRm, 1, 0, 8, 8),
-    (8, Phase::WaitRm, 1, 8, 8, 0),
+    (5, Phase::WaitIm, 0, 0, 4, 0),
+    (10, Phase::WaitRm, 1, 8, 8, 0),
+    (5, Phase::WaitIm, 0, 0, 4, 0),
+    (13, Phase::WaitRm, 1, 0, 8, 8),
+    (10, Phase::WaitRm, 1, 8, 8, 0),
+    (5, Phase::WaitIm, 0, 0, 4, 0),
 ];
 
 /// Checks a status that was shown, of a session without a level, a refusal and bytes for its bot.

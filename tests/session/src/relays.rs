@@ -3,7 +3,6 @@
 use crate::script::{WIDEST, assert_bytes};
 use daide_frame::side::Side::{self, Bot, Server};
 use daide_gate::{Phase, Ports, Pull, Put, RelayEnd, Session, relay};
-use daide_io::interest::Interest;
 use daide_io::ports::ClockEvent::{self, ImTimeIsOver, NoEvent, StopIsRequested};
 use daide_test_support::memory_ports::{Acceptance, Call, MemoryPorts, Script, ScriptedRead};
 use daide_test_support::rows::{holds, same};
@@ -421,8 +420,6 @@ struct Watching<'a, A: Allocator + Copy> {
 impl<'a, A: Allocator + Copy> Ports for Watching<'a, A> {
     ghost transition = { λ _ _ _. Unit {0} };
 
-    ghost interest = { λ _ _. Unit {0} };
-
     fn pull(&mut self, side: Side, buffer: &mut [u8]) -> Pull {
         self.ports.pull(side, buffer)
     }
@@ -439,10 +436,6 @@ impl<'a, A: Allocator + Copy> Ports for Watching<'a, A> {
 
     fn clock(&mut self) -> ClockEvent {
         self.ports.clock()
-    }
-
-    fn interest(&self) -> Interest {
-        Interest::NONE
     }
 }
 

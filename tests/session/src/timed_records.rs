@@ -6,10 +6,10 @@ use daide_gate::{
     Comment, Config, Connect, Moment, Notice, Orders, Ports, Pull, Record, RecordEnd, Recording,
     SessionEnd, SessionStatus, System, Words, check_log,
 };
-use daide_io::interest::{GroupInterest, Interest};
+use daide_io::ready_queue::ReadyQueue;
 use daide_test_support::memory_ports::{MemoryPorts, Script, ScriptedRead};
 use daide_test_support::rows::{holds, same};
-use std::alloc::Global;
+use std::alloc::{Allocator, Global};
 use std::test::Fail;
 
 /// The limits of each session in these tests.
@@ -65,43 +65,31 @@ struct Turns;
 impl System<MemoryPorts<'static>> for Turns {
     ghost transition = { λ _ _ _. Unit {0} };
 
-    fn begin_round(&mut self) -> Orders {
+    fn poll<A: Allocator>(&mut self, _may_block: bool, _ready: &mut ReadyQueue<A>) -> Orders {
         Orders::NONE
     }
 
     fn show(&mut self, _ports: &MemoryPorts<'static>, _status: SessionStatus) {}
 
-    fn is_at_rest(&self, _interest: &Interest) -> bool {
+    fn accept(&mut self, _place: usize) -> bool {
         false
     }
 
-    fn are_at_rest(&self, _group: &GroupInterest) -> bool {
-        false
-    }
-
-    fn has_news(&mut self, _interest: &Interest) -> bool {
-        true
-    }
-
-    fn begin_turn(&mut self, ports: &mut MemoryPorts<'static>) {
-        ports.begin_turn();
-    }
-
-    fn watch(&mut self, _interest: &Interest) {}
-
-    fn accept(&mut self) -> bool {
-        false
-    }
-
-    fn connected(&mut self) -> Connect<MemoryPorts<'static>> {
+    fn connected(&mut self, _place: usize) -> Connect<MemoryPorts<'static>> {
         Connect::Pending
     }
 
-    fn retire(&mut self, _ports: MemoryPorts<'static>, _end: SessionEnd) {}
+    fn begin_turn(&mut self, _place: usize, ports: &mut MemoryPorts<'static>) {
+        ports.begin_turn();
+    }
+
+    fn rest(&mut self, _place: usize, _ports: &MemoryPorts<'static>) -> bool {
+        true
+    }
+
+    fn retire(&mut self, _place: usize, _ports: MemoryPorts<'static>, _end: SessionEnd) {}
 
     fn tell(&mut self, _notice: Notice) {}
-
-    fn wait(&mut self) {}
 }
 
 /// A bot that sends its IM.
@@ -133,14 +121,14 @@ fn timed(alloc: Global) -> Result<Vec<u8>, Fail> {
     let mut ports = Recording::new(ports, record, Some(began));
     let mut buffer = [0; 1];
     for after in AFTER {
-        ports.begin_turn(&mut Turns, Some(moment(BEGAN.saturating_add(after))?));
+        ports.begin_turn(0, &mut Turns, Some(moment(BEGAN.saturating_add(after))?));
         same(
             &ports.pull(Side::Bot, &mut buffer),
             &Pull::Got(1),
             &"a byte",
         )?;
     }
-    ports.begin_turn(&mut Turns, Some(moment(BEGAN.saturating_add(1000))?));
+    ports.begin_turn(0, &mut Turns, Some(moment(BEGAN.saturating_add(1000))?));
     same(&ports.pull(Side::Bot, &mut buffer), &Pull::Idle, &"no byte")?;
     let (_, record) = ports.into_parts();
     let (text, ending) = record.finish();

@@ -1,0 +1,34 @@
+use Rattle.std.proofs.Common.{refl, sym, ap, ◌∙◌}
+use Rattle.daide_driver.specs.declared.place.SlabPlace.TheVariants.{Held}
+use Rattle.daide_driver.specs.Slab.{with_ports_in}
+use Rattle.daide_driver.proofs.SlabLemmas.{held_at, item_held, next_kept, place_set, same_held}
+use Rattle.daide_driver.proofs.slab.Slab.ports_mut.Goals as goal
+
+-- the place has a session, whatever ports the borrower leaves
+pub invariant_of-self-lent : goal.invariant_of-self-lent
+invariant_of-self-lent g c w =
+    let s = c.self.inside in
+    let slot = c.held_mut-lent.result.now in
+    next_kept s.places.items c.args.place s.next (Held slot) (Held (record { session = slot.session; ports = w }))
+    (item_held _ _ _ _ c.self.view_is c.args.place c.index_mut.result.now slot
+    c.requires c.index_mut.ensures.value c.held_mut-lent.ensures.value)
+    (λ e. cc) (λ e. cc) c.self.invariant
+
+pub returns : goal.returns
+returns g c =
+    let s = c.self.inside in
+    let slot = c.held_mut-lent.result.now in
+    let at = held_at _ _ _ _ c.self.view_is c.args.place c.index_mut.result.now slot
+    c.requires c.index_mut.ensures.value c.held_mut-lent.ensures.value in (
+      (
+        refl,
+        λ w. place_set _ _ _ _ c.self.view_is c.args.place
+            (Held (record { session = slot.session; ports = w }))
+            ∙ ap (λ found. with_ports_in c.args.self.now c.args.place found w) (sym at),
+      ),
+      record {
+        writes_back = tt;
+        value = λ held own. ap (λ p. p.1) (same_held _ _ _ _ c.self.view_is c.args.place
+            c.index_mut.result.now slot c.requires c.index_mut.ensures.value c.held_mut-lent.ensures.value held own);
+      },
+    )

@@ -1,0 +1,45 @@
+use Rattle.std.proofs.Common.{sym, ap, ◌∙◌, subst}
+use Rattle.daide_driver.specs.declared.place.SlabPlace.TheVariants.{Free}
+use Rattle.daide_driver.specs.Hub.{IsReportedOf}
+use Rattle.daide_driver.proofs.SlabLemmas.{held_at, is_there, next_freed, place_set, same_held, within}
+use Rattle.daide_driver.proofs.slab.Slab.remove.Goals as goal
+
+pub unreachable-requires : goal.unreachable-requires
+unreachable-requires g c =
+    let s = c.self.inside in
+    let slot = is_there _ _ _ _ c.self.view_is c.args.place c.index_mut.result.now
+    c.requires.held c.index_mut.ensures.value in
+    c.in_default.not-Held slot.0 (c.replace-taken.ensures.value ∙ slot.1)
+
+pub into_removed-requires : goal.into_removed-requires
+into_removed-requires g c =
+    let s = c.self.inside in
+    let slot = c.in-Held.slot in
+    c.requires.closed (slot.session, slot.ports) (held_at _ _ _ _ c.self.view_is c.args.place
+    c.index_mut.result.now slot c.requires.held c.index_mut.ensures.value (sym c.replace-taken.ensures.value ∙ c.in-Held.is))
+
+pub invariant_of-self : goal.invariant_of-self
+invariant_of-self g c =
+    let s = c.self.inside in
+    rw c.replace-taken.ensures.after (next_freed s.places.items c.args.place
+    (within _ _ _ _ c.self.view_is c.args.place c.requires.held))
+
+pub returns-clause-frees : goal.returns-clause-frees
+returns-clause-frees g c =
+    let s = c.self.inside in
+    rw c.replace-taken.ensures.after (place_set _ _ _ _ c.self.view_is c.args.place Free)
+
+pub returns-clause-ports : goal.returns-clause-ports
+returns-clause-ports g c = λ held own.
+    let s = c.self.inside in
+    c.into_removed.ensures.ports ∙ ap (λ p. p.1) (same_held _ _ _ _ c.self.view_is
+    c.args.place c.index_mut.result.now c.in-Held.slot c.requires.held c.index_mut.ensures.value
+    (sym c.replace-taken.ensures.value ∙ c.in-Held.is) held own)
+
+pub returns-clause-reported : goal.returns-clause-reported
+returns-clause-reported g c = λ held own.
+    let s = c.self.inside in
+    subst (λ h. IsReportedOf h.0 c.into_removed.result.account c.into_removed.result.ending c.into_removed.result.fault_field)
+    (same_held _ _ _ _ c.self.view_is c.args.place c.index_mut.result.now c.in-Held.slot
+    c.requires.held c.index_mut.ensures.value (sym c.replace-taken.ensures.value ∙ c.in-Held.is) held own)
+    c.into_removed.ensures.reported
