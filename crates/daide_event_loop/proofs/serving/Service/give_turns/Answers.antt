@@ -36,11 +36,13 @@ returns-then-is_closed g c =
       counters = c.self.inside.counters;
       ready = c.self.inside.ready;
     }) c.part_with.new.system) c.self.view_is
-    (retired g.P.Ports.transition g.S.System.transition _ _ _ (record {
+    (retired g.P.Ports.transition g.S.System.transition c.args.system.now c.take_turns-turns.new.system c.part_with.new.system (record {
       slab = c.self.inside.slab;
       counters = c.self.inside.counters;
       ready = c.self.inside.ready;
-    }) c.args.place _ _ _ c.session.result.now _ _ _ _ c.take_turns-turns.ensures c.session.ensures
+    }) c.args.place c.take_turns-turns.result c.take_turns-turns.new.slab c.remove-removed.new.self c.session.result.now
+    c.remove-removed.result.ports c.remove-removed.result.account c.remove-removed.result.ending c.remove-removed.result.fault_field
+    c.take_turns-turns.ensures c.session.ensures
     (sym c.is_closed.ensures ∙ c.if-is_closed.true) removed.frees removed.ports removed.reported c.part_with.ensures)
 
 pub returns-then-not-rests : goal.returns-then-not-rests
@@ -52,7 +54,8 @@ returns-then-not-rests g c =
     } in
     subst (λ (old : ServiceView g.row.P.Denot). HadVisit g.P.Ports.transition g.S.System.transition c.args.system.now old c.args.place
     c.take_turns-turns.result (record turned { ready = c.put_back.new.self }) c.rests.new.system) c.self.view_is
-    (left_open g.P.Ports.transition g.S.System.transition _ _ _ (record turned { slab = c.self.inside.slab }) _ c.args.place _ _
+    (left_open g.P.Ports.transition g.S.System.transition c.args.system.now c.take_turns-turns.new.system c.rests.new.system
+    (record turned { slab = c.self.inside.slab }) (record turned { ready = c.put_back.new.self }) c.args.place c.take_turns-turns.result c.take_turns-turns.new.slab
     c.session.result.now c.ports.result.now c.rests.result c.take_turns-turns.ensures c.session.ensures
     (sym c.is_closed.ensures ∙ c.if-is_closed.false) c.ports.ensures c.rests.ensures
     (ap (λ (ready : ReadyView). record turned { ready = ready }) c.put_back.ensures
@@ -67,7 +70,8 @@ returns-else-not-rests g c =
     } in
     subst (λ (old : ServiceView g.row.P.Denot). HadVisit g.P.Ports.transition g.S.System.transition c.args.system.now old c.args.place
     c.take_turns-turns.result turned c.rests.new.system) c.self.view_is
-    (left_open g.P.Ports.transition g.S.System.transition _ _ _ (record turned { slab = c.self.inside.slab }) _ c.args.place _ _
+    (left_open g.P.Ports.transition g.S.System.transition c.args.system.now c.take_turns-turns.new.system c.rests.new.system
+    (record turned { slab = c.self.inside.slab }) turned c.args.place c.take_turns-turns.result c.take_turns-turns.new.slab
     c.session.result.now c.ports.result.now c.rests.result c.take_turns-turns.ensures c.session.ensures
     (sym c.is_closed.ensures ∙ c.if-is_closed.false) c.ports.ensures c.rests.ensures
     (sym (ap (λ (rests : Bool). if rests then turned else queued_again turned c.args.place) c.if-not-rests.false)))
