@@ -1,5 +1,5 @@
 -- Places of a slab: one that changes, and the next free one.
-use Rattle.std.proofs.Common.{◌≡◌, ◌≢◌, ◌⊎◌, ℕ, zero, suc, ◌+◌, ◌≤◌, ◌<◌, Bool, true, false, List, [], ◌∷◌, ◌++◌, length, map, set, get_or, Some, inl, inr, ⊎_elim, refl, sym, ap, ◌∙◌, subst, arith, add-one, length-set}
+use Rattle.std.proofs.Common.{◌≡◌, ◌≢◌, ℕ, zero, suc, ◌+◌, ◌≤◌, ◌<◌, Bool, true, false, List, [], ◌∷◌, ◌++◌, length, map, set, get_or, Some, inl, inr, ⊎_elim, refl, sym, ap, ◌∙◌, subst, arith, add-one, length-set}
 use Rattle.std.specs.Prelude.{◌&&◌, Option, None, slice_get, option_map}
 use Rattle.std.specs.List.{list_all}
 use Rattle.std.proofs.lemmas.Bool.Decides.{eqb_tells}
@@ -9,7 +9,7 @@ use Rattle.daide_protocol.specs.Machine.{Limits}
 use Rattle.daide_protocol.specs.Wires.{SessionView}
 use Rattle.daide_driver.specs.declared.place.SlabPlace.{SlabPlace}
 use Rattle.daide_driver.specs.declared.place.SlabPlace.TheVariants.{Free, Kept, Held}
-use Rattle.daide_driver.specs.Slab.{SlabView, is_free_place, is_held, is_so, is_at, held_as, all_free, IsNoneFree, IsNextFree, IsAt, with_place}
+use Rattle.daide_driver.specs.Slab.{SlabView, is_free_place, is_kept, is_held, is_so, is_at, held_as, all_free, IsNoneFree, IsNextFree, IsAt, with_place}
 
 -- ---- lists
 
@@ -91,13 +91,16 @@ module _ {X P : Type 0} (f : X → SessionView × P) (limits : Limits) (items : 
       absurd (omega (arith, past, within))
   none_free next past (inr full) k h = full.1 k (free_item (slice_get items k) (seen k ∙ h))
 
-  -- the item at a place that has a session: it was read, and has this
-  pub within : (i : ℕ) → is_at is_held now.places i ≡ true → i < length items
-  within i e =
-      let held = session_in (slice_get now.places i) e in
-      let inside : i < length now.places = slice_get_within now.places i (Held held.0) held.1 in
+  -- a place of the value is one of the items
+  pub place_in : (i : ℕ) (p : SlabPlace (SessionView × P)) → IsAt now i p → i < length items
+  place_in i p at =
+      let inside : i < length now.places = slice_get_within now.places i p at in
       let same : length (map (held_as f) items) ≡ length now.places = ap (λ (s : SlabView P). length s.places) is in
       omega (arith, inside, same, length-map items (held_as f))
+
+  -- the item at a place that has a session: it was read, and has this
+  pub within : (i : ℕ) → is_at is_held now.places i ≡ true → i < length items
+  within i e = let held = session_in (slice_get now.places i) e in place_in i (Held held.0) held.1
 
   pub item_read : (i : ℕ) (x : SlabPlace X) → is_at is_held now.places i ≡ true → x ≡ get_or items i x → slice_get items i ≡ Some x
   item_read i x e read = slice_get_read items (length items) i x refl (within i e) read
@@ -133,7 +136,33 @@ module _ {X P : Type 0} (f : X → SessionView × P) (limits : Limits) (items : 
       (record { limits = limits; places = map (held_as f) (set items i x) }) (with_place s i (held_as f x))) is
       (ap (λ (ps : List (SlabPlace (SessionView × P))). record { limits = limits; places = ps }) (map-set (held_as f) items i x))
 
-  -- whether each place is free
+  -- whether this is so of a place, and of each place
+  tested : (one : SlabPlace (SessionView × P) → Bool) (other : SlabPlace X → Bool) →
+      ((x : SlabPlace X) → one (held_as f x) ≡ other x) → (i : ℕ) (x : Option (SlabPlace X)) → slice_get items i ≡ x →
+      is_so other x ≡ is_at one now.places i
+  tested one other same i x at =
+      sym (of x) ∙ ap (λ (y : Option (SlabPlace X)). is_so one (option_map (held_as f) y)) (sym at) ∙ ap (is_so one) (seen i)
+    where
+      of : (y : Option (SlabPlace X)) → is_so one (option_map (held_as f) y) ≡ is_so other y
+      of None = refl
+      of (Some y) = same y
+
+  pub kept_seen : (i : ℕ) (x : Option (SlabPlace X)) → slice_get items i ≡ x → is_so is_kept x ≡ is_at is_kept now.places i
+  kept_seen = tested is_kept is_kept same
+    where
+      same : (x : SlabPlace X) → is_kept (held_as f x) ≡ is_kept x
+      same Free = refl
+      same Kept = refl
+      same (Held held) = refl
+
+  pub held_seen : (i : ℕ) (x : Option (SlabPlace X)) → slice_get items i ≡ x → is_so is_held x ≡ is_at is_held now.places i
+  held_seen = tested is_held is_held same
+    where
+      same : (x : SlabPlace X) → is_held (held_as f x) ≡ is_held x
+      same Free = refl
+      same Kept = refl
+      same (Held held) = refl
+
   pub all_seen : list_all is_free_place items ≡ list_all is_free_place now.places
   all_seen = sym (same items) ∙ ap (λ (s : SlabView P). list_all is_free_place s.places) is
     where

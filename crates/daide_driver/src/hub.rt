@@ -14,7 +14,8 @@ ghost use Rattle.daide_driver.specs.Hub.{HubView, IsHubCause, IsAddCause, AddsSe
 ghost use Rattle.std.specs.Borrow.{Lends, sem};
 ghost use Rattle.daide_driver.specs.Hub.{IsReportedOf, with_ports, weight_at, session_bound};
 
-use crate::slot::{Removed, SessionSlot};
+pub use crate::slot::Removed;
+use crate::slot::SessionSlot;
 use crate::turn_io::BUFFER;
 use daide_frame::memory::Memory;
 use daide_io::ports::Ports;

@@ -1,5 +1,5 @@
 use Rattle.std.proofs.Common.{◌≡◌, sym, ◌∙◌, ap, subst, arith}
-use Rattle.std.specs.Prelude.{false, true, Some, IfSome}
+use Rattle.std.specs.Prelude.{false, Some, IfSome}
 use Rattle.daide_words.specs.Words.{words_of}
 use Rattle.daide_protocol.specs.Wires.{SessionView, is_closed}
 use Rattle.daide_protocol.specs.Config.{limits_with}

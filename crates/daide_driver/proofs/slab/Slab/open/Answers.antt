@@ -1,6 +1,11 @@
+use Rattle.std.proofs.Common.{arith}
 use Rattle.daide_driver.specs.declared.place.SlabPlace.TheVariants.{Kept, Held}
-use Rattle.daide_driver.proofs.SlabLemmas.{item_kept, next_kept, place_set}
+use Rattle.daide_driver.proofs.SlabLemmas.{item_kept, next_kept, place_in, place_set}
 use Rattle.daide_driver.proofs.slab.Slab.open.Goals as goal
+
+pub index_mut-requires : goal.index_mut-requires
+index_mut-requires g c =
+    let inside = place_in _ _ _ _ c.self.view_is c.args.place Kept c.requires in omega (arith, inside, c.self.inside.places.ok.0)
 
 pub invariant_of-self : goal.invariant_of-self
 invariant_of-self g c =

@@ -1,8 +1,17 @@
-use Rattle.std.proofs.Common.{refl, sym, ap, ◌∙◌}
+use Rattle.std.proofs.Common.{refl, sym, ap, ◌∙◌, arith}
 use Rattle.daide_driver.specs.declared.place.SlabPlace.TheVariants.{Held}
-use Rattle.daide_driver.specs.Slab.{with_ports_in}
-use Rattle.daide_driver.proofs.SlabLemmas.{held_at, item_held, next_kept, place_set, same_held}
+use Rattle.daide_driver.specs.Slab.{is_held, with_ports_in}
+use Rattle.daide_driver.proofs.SlabLemmas.{held_at, is_there, item_held, next_kept, place_set, same_held, within}
 use Rattle.daide_driver.proofs.slab.Slab.ports_mut.Goals as goal
+
+pub index_mut-requires : goal.index_mut-requires
+index_mut-requires g c =
+    let inside = within _ _ _ _ c.self.view_is c.args.place c.requires in omega (arith, inside, c.self.inside.places.ok.0)
+
+pub held_mut-lent-requires : goal.held_mut-lent-requires
+held_mut-lent-requires g c =
+    let slot = is_there _ _ _ _ c.self.view_is c.args.place c.index_mut.result.now c.requires c.index_mut.ensures.value in
+    ap is_held slot.1
 
 -- the place has a session, whatever ports the borrower leaves
 pub invariant_of-self-lent : goal.invariant_of-self-lent

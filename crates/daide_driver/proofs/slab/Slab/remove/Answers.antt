@@ -1,8 +1,12 @@
-use Rattle.std.proofs.Common.{sym, ap, ◌∙◌, subst}
+use Rattle.std.proofs.Common.{sym, ap, ◌∙◌, subst, arith}
 use Rattle.daide_driver.specs.declared.place.SlabPlace.TheVariants.{Free}
 use Rattle.daide_driver.specs.Hub.{IsReportedOf}
 use Rattle.daide_driver.proofs.SlabLemmas.{held_at, is_there, next_freed, place_set, same_held, within}
 use Rattle.daide_driver.proofs.slab.Slab.remove.Goals as goal
+
+pub index_mut-requires : goal.index_mut-requires
+index_mut-requires g c =
+    let inside = within _ _ _ _ c.self.view_is c.args.place c.requires.held in omega (arith, inside, c.self.inside.places.ok.0)
 
 pub unreachable-requires : goal.unreachable-requires
 unreachable-requires g c =

@@ -1,6 +1,17 @@
+use Rattle.std.proofs.Common.{ap, arith}
 use Rattle.daide_driver.specs.declared.place.SlabPlace.TheVariants.{Held}
-use Rattle.daide_driver.proofs.SlabLemmas.{held_at, item_held, next_kept, place_set}
+use Rattle.daide_driver.specs.Slab.{is_held}
+use Rattle.daide_driver.proofs.SlabLemmas.{held_at, is_there, item_held, next_kept, place_set, within}
 use Rattle.daide_driver.proofs.slab.Slab.turn.Goals as goal
+
+pub index_mut-requires : goal.index_mut-requires
+index_mut-requires g c =
+    let inside = within _ _ _ _ c.self.view_is c.args.place c.requires in omega (arith, inside, c.self.inside.places.ok.0)
+
+pub held_mut-requires : goal.held_mut-requires
+held_mut-requires g c =
+    let slot = is_there _ _ _ _ c.self.view_is c.args.place c.index_mut.result.now c.requires c.index_mut.ensures.value in
+    ap is_held slot.1
 
 pub invariant_of-self : goal.invariant_of-self
 invariant_of-self g c =
