@@ -1,14 +1,13 @@
 -- The steps of a visit, as the loop makes them, together are the visit.
 use Rattle.std.proofs.Common.{◌≡◌, ℕ, ◌<◌, ◌≤◌, Bool, true, false, List, [], ◌∷◌, ◌++◌, Option, Some, None}
 use Rattle.std.proofs.Common.{refl, sym, ap, ◌∙◌, subst, arith}
-use Rattle.std.specs.Prelude.{not, slice_get, if◌then◌else◌}
+use Rattle.std.specs.Prelude.{slice_get, if◌then◌else◌}
 use Rattle.daide_protocol.specs.declared.ending.Ending.{Ending}
 use Rattle.daide_protocol.specs.declared.account.Account.{Account}
 use Rattle.daide_protocol.specs.Machine.{ending_in}
 use Rattle.daide_protocol.specs.Wires.{SessionView, is_closed}
 use Rattle.daide_io.specs.declared.fault_field.FaultField.{FaultField}
 use Rattle.daide_io.specs.Ports.{PortCall}
-use Rattle.daide_io.specs.ReadyQueue.{put_back}
 use Rattle.daide_io.specs.declared.system.Connect.{Connect}
 use Rattle.daide_io.specs.declared.system.Connect.TheVariants.{Ready, Failed, Pending}
 use Rattle.daide_io.specs.System.{SystemCall, Connects, TransitsBy}
@@ -17,7 +16,7 @@ use Rattle.daide_driver.specs.declared.place.SlabPlace.{SlabPlace}
 use Rattle.daide_driver.specs.declared.place.SlabPlace.TheVariants.{Free, Kept, Held}
 use Rattle.daide_driver.specs.Slab.{SlabView, IsAt, IfHeldAt, is_so, is_at, is_kept, is_held, with_place, OpensAt}
 use Rattle.daide_event_loop.specs.QuotaPorts.{QuotaPortsView, RestsBy}
-use Rattle.daide_event_loop.specs.Serving.{ServiceView, TakesTurns, TurnsAndLeaves, MeetsBy, VisitsBy, VisitsPlace, parting, end_by, end_of, with_free_place, queued_again}
+use Rattle.daide_event_loop.specs.Serving.{ServiceView, TakesTurns, TurnsAndLeaves, MeetsBy, VisitsBy, VisitsPlace, parting, end_by, end_of, queued_again}
 use Rattle.daide_event_loop.proofs.BeginningLemmas.{get_set, held_in, turns_there}
 use Rattle.daide_event_loop.proofs.TransitLemmas.{transits_then}
 

@@ -1,4 +1,4 @@
-use Rattle.std.proofs.Common.{◌≡◌, ◌≤◌, ◌≢◌, ◌+◌, Bool, true, false, List, [], ◌∷◌, refl, sym, ap, ◌∙◌, subst, inl, inr, arith}
+use Rattle.std.proofs.Common.{◌≤◌, ◌≢◌, ◌+◌, Bool, true, false, List, [], ◌∷◌, refl, sym, ap, ◌∙◌, subst, inl, inr, arith}
 use Rattle.std.proofs.lemmas.Bool.{eqb-false}
 use Rattle.daide_io.specs.System.{SystemCall, Accepts, TransitsBy}
 use Rattle.daide_driver.specs.Slab.{IsNoneFree}
@@ -11,7 +11,7 @@ returns-then-have_all_come g c = (
   refl,
   inr (
     inl (ap (λ (run : ServiceView g.row.P.Denot). have_all_come run.counters) (sym c.self.view_is) ∙ sym c.have_all_come.ensures
-    ∙ c.if-have_all_come.true),
+        ∙ c.if-have_all_come.true),
     refl,
     refl,
   ),

@@ -6,7 +6,7 @@ use Rattle.daide_io.specs.Ports.{PortCall}
 use Rattle.daide_io.specs.System.{SystemCall, Connects, Notifies, TransitsBy}
 use Rattle.daide_driver.specs.Slab.{SlabView, is_at, is_kept, OpensAt}
 use Rattle.daide_event_loop.specs.QuotaPorts.{QuotaPortsView}
-use Rattle.daide_event_loop.specs.Serving.{ServiceView, VisitsPlace, IsRefusedAt, fresh}
+use Rattle.daide_event_loop.specs.Serving.{ServiceView, VisitsPlace, IsRefusedAt}
 use Rattle.daide_event_loop.proofs.VisitLemmas.{passed_over, kept_in, visited_kept, opened_there}
 use Rattle.daide_event_loop.proofs.serving.Service.meet.Goals as goal
 
