@@ -1,6 +1,6 @@
 -- A run has as many places in its queue as in its slab. So whoever is accepted is queued, and a run that is idle after a
 -- round, though it may accept a bot, asked for one in vain.
-use Rattle.std.proofs.Common.{◌≡◌, ℕ, zero, suc, ◌+◌, ◌<◌, Bool, true, false, List, [], ◌∷◌, ◌++◌, Option, Some, None, length, inl, inr, ⊎_elim}
+use Rattle.std.proofs.Common.{◌≡◌, ℕ, zero, suc, ◌+◌, Bool, true, false, List, [], ◌∷◌, ◌++◌, Option, Some, None, length, inl, inr, ⊎_elim}
 use Rattle.std.proofs.Common.{refl, sym, ap, ◌∙◌, subst, arith}
 use Rattle.std.specs.Prelude.{◌==◌, ◌&&◌, if◌then◌else◌, slice_get}
 use Rattle.std.proofs.lemmas.Bool.{eqb-true}
@@ -104,9 +104,11 @@ module _ {P : Type 0} (port_transition : P → PortCall → P → Type 0) where
       by : (connect : Connect P) (told : List (SystemCall P)) → MeetsBy port_transition connect old place turns told new →
           KeepsPlaces old new
       by (Ready ports) told m =
-          let given = given_places (record old { slab = m.0 }) place turns told new m.2 in
-          (given.0, given.1 ∙ ap (λ (s : SlabView (QuotaPortsView P)). length s.places) m.1.2
-          ∙ length-set old.slab.places place (Held (m.1.0, fresh ports old.counters.turns)))
+          let given = given_places (record old { slab = m.0 }) place turns told new m.2 in (
+            given.0,
+            given.1 ∙ ap (λ (s : SlabView (QuotaPortsView P)). length s.places) m.1.2
+                ∙ length-set old.slab.places place (Held (m.1.0, fresh ports old.counters.turns)),
+          )
       by Failed told m = (
         ap (λ (s : ServiceView P). s.ready.places) m.2,
         ap (λ (s : ServiceView P). length s.slab.places) m.2 ∙ length-set old.slab.places place Free,

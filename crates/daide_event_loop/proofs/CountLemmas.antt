@@ -1,5 +1,5 @@
 -- The bots accepted, the connects pending, the sessions, and the fate of the others: what each step adds to them.
-use Rattle.std.proofs.Common.{◌≡◌, ℕ, zero, suc, ◌+◌, ◌<◌, Bool, true, false, cond, List, [], ◌∷◌, ◌++◌, Option, Some, None, refl, sym, ap, ◌∙◌}
+use Rattle.std.proofs.Common.{◌≡◌, ℕ, zero, suc, ◌+◌, Bool, true, false, cond, List, [], ◌∷◌, ◌++◌, Option, Some, None, refl, sym, ap, ◌∙◌}
 use Rattle.std.proofs.Common.{subst, arith, inl, inr}
 use Rattle.std.specs.Prelude.{count_by, slice_get, slice_set, is_none, if◌then◌else◌}
 use Rattle.std.proofs.lemmas.List.Sums.{sum_by-cons}
@@ -12,15 +12,15 @@ use Rattle.daide_io.specs.declared.system.Notice.TheVariants.{CannotReach, Turns
 use Rattle.daide_io.specs.declared.system.Orders.{Orders}
 use Rattle.daide_io.specs.declared.system.SessionEnd.{SessionEnd}
 use Rattle.daide_io.specs.declared.system.SessionStatus.{SessionStatus}
-use Rattle.daide_io.specs.System.{SystemCall, Polls, Shows, Accepts, Connects, BeginsTurn, Rests, Retires, Notifies, status_of}
+use Rattle.daide_io.specs.System.{SystemCall, Shows, Accepts, Connects, BeginsTurn, Rests, Retires, Notifies, status_of}
 use Rattle.daide_driver.specs.Hub.{IsTurned}
 use Rattle.daide_driver.specs.declared.place.SlabPlace.{SlabPlace}
 use Rattle.daide_driver.specs.declared.place.SlabPlace.TheVariants.{Free, Kept, Held}
 use Rattle.daide_driver.specs.Slab.{SlabView, IsAt, is_held, is_kept, ChangesAt}
 use Rattle.daide_event_loop.specs.QuotaPorts.{QuotaPortsView, Meters, beginning_where, RestsBy}
-use Rattle.daide_event_loop.specs.Serving.{ServiceView, sessions_in, pending_in, shows, shows_where, opening, polled, heeding, closed, with_one_accepted}
-use Rattle.daide_event_loop.specs.Serving.{OpensTurn, TakesTurn, TurnsInRow, LeavesVisit, TurnsAndLeaves, MeetsBy, VisitsBy, VisitsNext, Visits}
-use Rattle.daide_event_loop.specs.Serving.{fresh, with_free_place, queued_again, last_words, parting, end_of, Admits, AsksForBot, accepted_at}
+use Rattle.daide_event_loop.specs.Serving.{ServiceView, sessions_in, pending_in, shows_where, opening, polled, closed}
+use Rattle.daide_event_loop.specs.Serving.{OpensTurn, TurnsInRow, LeavesVisit, TurnsAndLeaves, MeetsBy, VisitsBy, Visits}
+use Rattle.daide_event_loop.specs.Serving.{fresh, queued_again, last_words, parting, end_of, Admits, accepted_at}
 use Rattle.daide_event_loop.specs.Served.{comes, connects, retires, unreached, sum_over_calls}
 
 -- ---- counts of places
@@ -259,9 +259,10 @@ module _ {P : Type 0} (port_transition : P → PortCall → P → Type 0) where
       (sessions_in new ≡ sessions_in old) × (pending_in new ≡ pending_in old)
   changed_counts Kind old place new h =
       let sessions = set_count is_held old.places place (Held h.0) (Held h.1) h.2 in
-      let pending = set_count is_kept old.places place (Held h.0) (Held h.1) h.2 in
-      (ap (λ (s : SlabView (QuotaPortsView P)). sessions_in s) h.3 ∙ omega (arith, sessions),
-      ap (λ (s : SlabView (QuotaPortsView P)). pending_in s) h.3 ∙ omega (arith, pending))
+      let pending = set_count is_kept old.places place (Held h.0) (Held h.1) h.2 in (
+        ap (λ (s : SlabView (QuotaPortsView P)). sessions_in s) h.3 ∙ omega (arith, sessions),
+        ap (λ (s : SlabView (QuotaPortsView P)). pending_in s) h.3 ∙ omega (arith, pending),
+      )
 
   turns_counts : (n : ℕ) (old : SlabView (QuotaPortsView P)) (place : ℕ) (answers : List (SystemCall P))
       (new : SlabView (QuotaPortsView P)) → TurnsInRow port_transition n old place answers new →

@@ -1,12 +1,12 @@
 -- The turns of a round, and the places of the queue that come nearer in it.
 use Rattle.std.proofs.Common.{◌≡◌, ℕ, zero, suc, ◌+◌, ◌*◌, ◌-◌, ◌<◌, ◌≤◌, ◌⊎◌, inl, inr, ⊎_elim, Bool, true, false, List, [], ◌∷◌, ◌++◌}
-use Rattle.std.proofs.Common.{Option, Some, None, refl, sym, ap, ◌∙◌, subst, arith, append-nil}
-use Rattle.std.specs.Prelude.{slice_get, Contains, nat_le, if◌then◌else◌}
+use Rattle.std.proofs.Common.{Option, Some, None, refl, sym, ap, ◌∙◌, subst, arith}
+use Rattle.std.specs.Prelude.{slice_get, Contains, if◌then◌else◌}
 use Rattle.std.proofs.lemmas.Bool.Decides.{nat_tests}
 use Rattle.std.proofs.lemmas.List.Elements.{Contains-append_right}
 use Rattle.daide_protocol.specs.Wires.{SessionView, is_closed}
 use Rattle.daide_io.specs.Ports.{PortCall}
-use Rattle.daide_io.specs.ReadyQueue.{ReadyView, queued_places, may_join, woken, put_back, TakesFresh, TakesMoving, TakesNext}
+use Rattle.daide_io.specs.ReadyQueue.{ReadyView, queued_places, may_join, put_back, TakesNext}
 use Rattle.daide_io.specs.System.{SystemCall}
 use Rattle.daide_io.specs.declared.system.Connect.{Connect}
 use Rattle.daide_io.specs.declared.system.Connect.TheVariants.{Ready, Failed, Pending}
@@ -14,12 +14,13 @@ use Rattle.daide_driver.specs.declared.place.SlabPlace.{SlabPlace}
 use Rattle.daide_driver.specs.declared.place.SlabPlace.TheVariants.{Free, Kept, Held}
 use Rattle.daide_driver.specs.Slab.{SlabView}
 use Rattle.daide_event_loop.specs.QuotaPorts.{QuotaPortsView, beginning_where}
-use Rattle.daide_event_loop.specs.Serving.{ServiceView, TurnsInRow, LeavesVisit, TurnsAndLeaves, end_of, opening, MeetsBy, VisitsBy, VisitsNext, Visits, VisitsReady, has_room}
-use Rattle.daide_event_loop.specs.Serving.{Chooses, AsksForBot, AsksForNone, Admits, accepted_at, Round, polled}
+use Rattle.daide_event_loop.specs.Serving.{ServiceView, TurnsInRow, LeavesVisit, TurnsAndLeaves, end_of, opening, MeetsBy, VisitsBy, Visits, has_room}
+use Rattle.daide_event_loop.specs.Serving.{Admits, accepted_at, polled}
 use Rattle.daide_event_loop.specs.Served.{sum_over_calls}
-use Rattle.daide_event_loop.specs.Fairness.{RoundsAreShort, IsBehind, Advances, ReadyPlacesAdvance, turn_calls}
+use Rattle.daide_event_loop.specs.Fairness.{RoundsAreShort, IsBehind, ReadyPlacesAdvance, turn_calls}
 use Rattle.daide_event_loop.proofs.CountLemmas.{counted_append, parts_count, none_shown, parting_count, rests_none}
 use Rattle.daide_event_loop.proofs.OrderLemmas.{admission_none}
+use Rattle.daide_event_loop.proofs.VisitLemmas.{visit_turns}
 
 -- ---- numbers
 
@@ -28,12 +29,6 @@ room_left turns e = grind (arith, nat_tests, e)
 
 room_gone : (turns : ℕ) → has_room turns ≡ false → 24 < turns
 room_gone turns e = grind (arith, nat_tests, e)
-
-some_room : (turns : ℕ) → turns ≤ 24 → has_room turns ≡ true
-some_room turns h = grind (arith, nat_tests, h)
-
-no_room : (turns : ℕ) → 24 < turns → has_room turns ≡ false
-no_room turns h = grind (arith, nat_tests, h)
 
 -- ---- a place of a list
 
@@ -57,20 +52,6 @@ nearer first xs (suc k) place h = inr (k, omega arith, h)
 -- ---- a visit
 
 module _ {P : Type 0} (port_transition : P → PortCall → P → Type 0) where
-  -- it counts one turn at least, and a quantum at most
-  visit_turns : (at : Option (SlabPlace (SessionView × QuotaPortsView P))) (old : ServiceView P) (place turns : ℕ) (answers : List (SystemCall P))
-      (new : ServiceView P) → VisitsBy port_transition at old place turns answers new → (0 < turns) × (turns ≤ 8)
-  visit_turns None old place turns answers new h = let one = h.0 in (omega (arith, one), omega (arith, one))
-  visit_turns (Some Free) old place turns answers new h = let one = h.0 in (omega (arith, one), omega (arith, one))
-  visit_turns (Some Kept) old place turns answers new h = by h.0 h.1 h.3
-    where
-      by : (connect : Connect P) (told : List (SystemCall P)) → MeetsBy port_transition connect old place turns told new →
-          (0 < turns) × (turns ≤ 8)
-      by (Ready ports) told m = (m.2.takes.some, m.2.takes.few)
-      by Failed told m = let one = m.0 in (omega (arith, one), omega (arith, one))
-      by Pending told m = let one = m.0 in (omega (arith, one), omega (arith, one))
-  visit_turns (Some (Held now)) old place turns answers new h = (h.takes.some, h.takes.few)
-
   -- the queue is as before, but that its place may have joined the end
   abbrev pub Rejoins : ℕ → ReadyView → ReadyView → Type 0
   Rejoins place old new = (new ≡ old) ⊎ (new ≡ put_back old place)
@@ -146,9 +127,12 @@ module _ {P : Type 0} (port_transition : P → PortCall → P → Type 0) where
   taken_there : (first : Bool) (old xs : List ℕ) (other k place : ℕ) → xs ≡ old → (first ≡ true → old ≡ []) → IsBehind old k place →
       Nearer first xs other k place
   taken_there first old xs other k place e empty h =
-      inr (k, omega arith,
-      (λ f. absurd (none_after k place (subst (λ (l : List ℕ). IsBehind l k place) (empty f) h))),
-      subst (λ (l : List ℕ). IsBehind l k place) (sym e) h)
+      inr (
+        k,
+        omega arith,
+        (λ f. absurd (none_after k place (subst (λ (l : List ℕ). IsBehind l k place) (empty f) h))),
+        subst (λ (l : List ℕ). IsBehind l k place) (sym e) h,
+      )
 
   next_fresh : (fresh_first : Bool) (old new : ReadyView) (other k place : ℕ) → TakesNext fresh_first old other new →
       IsBehind old.fresh k place → Nearer fresh_first new.fresh other k place
@@ -185,7 +169,7 @@ module _ {P : Type 0} (port_transition : P → PortCall → P → Type 0) where
   visits_short (place ∷ earlier) turns old answers new h =
       let sum = h.5 in
       let room = room_left h.1 h.8.room in
-      let few = (visit_turns _ _ place h.2 h.4 new h.8.visits).1 in
+      let few = (visit_turns port_transition _ _ place h.2 h.4 new h.8.visits).1 in
       omega (arith, sum, room, few)
 
   -- and the calls that begin them
@@ -269,8 +253,12 @@ module _ {P : Type 0} (port_transition : P → PortCall → P → Type 0) where
       FreshSoFar visited turns new.ready k place
   fresh_advances [] turns old answers new k place h at =
       let none = h.0 in
-      inr (k, omega arith, inr (omega (arith, none)),
-      subst (λ (s : ServiceView P). IsBehind s.ready.fresh k place) (sym h.2) at)
+      inr (
+        k,
+        omega arith,
+        inr (omega (arith, none)),
+        subst (λ (s : ServiceView P). IsBehind s.ready.fresh k place) (sym h.2) at,
+      )
   fresh_advances (other ∷ earlier) turns old answers new k place h at =
       ⊎_elim (λ (c : Contains earlier place). inl (Contains-append_right (other ∷ []) earlier place c)) step
       (fresh_advances earlier h.1 old h.3 h.0 k place h.7 at)
@@ -279,7 +267,7 @@ module _ {P : Type 0} (port_transition : P → PortCall → P → Type 0) where
       rejoins = visited_queue _ _ other h.2 h.4 new h.8.visits
 
       few : h.2 ≤ 8
-      few = (visit_turns _ _ other h.2 h.4 new h.8.visits).1
+      few = (visit_turns port_transition _ _ other h.2 h.4 new h.8.visits).1
 
       sum : turns ≡ h.1 + h.2
       sum = h.5
@@ -300,8 +288,12 @@ module _ {P : Type 0} (port_transition : P → PortCall → P → Type 0) where
           (λ (n : (i : ℕ) × (i ≤ s.0) × (has_room (h.1 + 8) ≡ true → i + 1 ≤ s.0) × IsBehind h.8.ready.fresh i place).
           let far = s.1 in
           let less = n.1 in
-          inr (n.0, omega (arith, far, less), near s.0 n.0 s.1 s.2 n.1 n.2,
-          rejoined_fresh h.8.ready new.ready other n.0 place rejoins n.3))
+          inr (
+            n.0,
+            omega (arith, far, less),
+            near s.0 n.0 s.1 s.2 n.1 n.2,
+            rejoined_fresh h.8.ready new.ready other n.0 place rejoins n.3,
+          ))
           (next_fresh (has_room (h.1 + 8)) h.0.ready h.8.ready other s.0 place h.8.chooses s.3)
 
   -- a place of `moving` is visited; or it is nearer, or the round is not yet at its last quantum
@@ -314,8 +306,12 @@ module _ {P : Type 0} (port_transition : P → PortCall → P → Type 0) where
       MovingSoFar visited turns new.ready k place
   moving_advances [] turns old answers new k place h at =
       let none = h.0 in
-      inr (k, omega arith, inr (omega (arith, none)),
-      subst (λ (s : ServiceView P). IsBehind s.ready.moving k place) (sym h.2) at)
+      inr (
+        k,
+        omega arith,
+        inr (omega (arith, none)),
+        subst (λ (s : ServiceView P). IsBehind s.ready.moving k place) (sym h.2) at,
+      )
   moving_advances (other ∷ earlier) turns old answers new k place h at =
       ⊎_elim (λ (c : Contains earlier place). inl (Contains-append_right (other ∷ []) earlier place c)) step
       (moving_advances earlier h.1 old h.3 h.0 k place h.7 at)
@@ -324,7 +320,7 @@ module _ {P : Type 0} (port_transition : P → PortCall → P → Type 0) where
       rejoins = visited_queue _ _ other h.2 h.4 new h.8.visits
 
       few : h.2 ≤ 8
-      few = (visit_turns _ _ other h.2 h.4 new h.8.visits).1
+      few = (visit_turns port_transition _ _ other h.2 h.4 new h.8.visits).1
 
       sum : turns ≡ h.1 + h.2
       sum = h.5
@@ -345,8 +341,12 @@ module _ {P : Type 0} (port_transition : P → PortCall → P → Type 0) where
           (λ (n : (i : ℕ) × (i ≤ s.0) × (has_room (h.1 + 8) ≡ false → i + 1 ≤ s.0) × IsBehind h.8.ready.moving i place).
           let far = s.1 in
           let less = n.1 in
-          inr (n.0, omega (arith, far, less), near s.0 n.0 s.1 s.2 n.1 n.2,
-          rejoined_moving h.8.ready new.ready other n.0 place rejoins n.3))
+          inr (
+            n.0,
+            omega (arith, far, less),
+            near s.0 n.0 s.1 s.2 n.1 n.2,
+            rejoined_moving h.8.ready new.ready other n.0 place rejoins n.3,
+          ))
           (next_moving (has_room (h.1 + 8)) h.0.ready h.8.ready other s.0 place h.8.chooses s.3)
 
   -- ---- a round
@@ -418,17 +418,21 @@ module _ {P : Type 0} (port_transition : P → PortCall → P → Type 0) where
             let late = full visits.turns round.mid.ready visits.ends
             (λ empty. none_after s.0 place (subst (λ (l : List ℕ). IsBehind l s.0 place) (none_fresh round.mid.ready empty) s.3)) in
             let less = s.1 in
-            inr (s.0,
-            ⊎_elim (λ (three : s.0 + 3 ≤ k). three) (λ (each : visits.turns ≤ 8 * (k - s.0)). omega (arith, late, each, less)) s.2,
-            admitted_fresh round.mid round.admission new s.0 place round.admits s.3))
+            inr (
+              s.0,
+              ⊎_elim (λ (three : s.0 + 3 ≤ k). three) (λ (each : visits.turns ≤ 8 * (k - s.0)). omega (arith, late, each, less)) s.2,
+              admitted_fresh round.mid round.admission new s.0 place round.admits s.3,
+            ))
             (fresh_advances visits.visited visits.turns start round.visiting round.mid k place visits.takes at);
         moving = λ at.
             ⊎_elim (λ (c : Contains visits.visited place). inl c)
             (λ (s : (j : ℕ) × (j ≤ k) × ((j < k) ⊎ (visits.turns ≤ 24)) × IsBehind round.mid.ready.moving j place).
             let late = full visits.turns round.mid.ready visits.ends
             (λ empty. none_after s.0 place (subst (λ (l : List ℕ). IsBehind l s.0 place) (none_moving round.mid.ready empty) s.3)) in
-            inr (s.0,
-            ⊎_elim (λ (one : s.0 < k). one) (λ (early : visits.turns ≤ 24). absurd (omega (arith, late, early))) s.2,
-            admitted_moving round.mid round.admission new s.0 place round.admits s.3))
+            inr (
+              s.0,
+              ⊎_elim (λ (one : s.0 < k). one) (λ (early : visits.turns ≤ 24). absurd (omega (arith, late, early))) s.2,
+              admitted_moving round.mid round.admission new s.0 place round.admits s.3,
+            ))
             (moving_advances visits.visited visits.turns start round.visiting round.mid k place visits.takes at);
       }

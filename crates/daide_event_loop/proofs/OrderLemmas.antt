@@ -17,9 +17,9 @@ use Rattle.daide_driver.specs.declared.place.SlabPlace.TheVariants.{Free, Kept, 
 use Rattle.daide_driver.specs.Slab.{is_free_place}
 use Rattle.daide_event_loop.specs.declared.admission_counters.AdmissionCounters.{AdmissionCounters}
 use Rattle.daide_event_loop.specs.QuotaPorts.{QuotaPortsView}
-use Rattle.daide_event_loop.specs.Serving.{ServiceView, initial_service, is_done, closed, heeding, opening, polled, shows_where, have_all_come}
+use Rattle.daide_event_loop.specs.Serving.{ServiceView, initial_service, closed, heeding, opening, polled, shows_where, have_all_come}
 use Rattle.daide_settings.specs.BotsInAll.{bots_in_all}
-use Rattle.daide_event_loop.specs.Serving.{LeavesVisit, TurnsAndLeaves, MeetsBy, VisitsBy, Visits, with_free_place, queued_again, accepted_at, Admits, Round}
+use Rattle.daide_event_loop.specs.Serving.{LeavesVisit, TurnsAndLeaves, MeetsBy, VisitsBy, Visits, queued_again, accepted_at, Admits, Round}
 use Rattle.daide_event_loop.specs.Served.{sum_over_calls, accept_calls, show_calls, orders_with, stop_orders, show_orders, HeedsStops, HeedsOrders}
 use Rattle.daide_event_loop.proofs.CountLemmas.{counted_append, parts_count, none_shown, IsOfOpening, visits_none}
 
@@ -65,7 +65,7 @@ module _ {P : Type 0} where
       r.visits.takes in
       omega (arith, all, one, none)
 
--- ---- after a stop
+  -- ---- after a stop
 
   -- no order, so nothing to heed
   none_to_heed : (answers : List (SystemCall P)) → stop_orders answers ≡ 0 → HeedsStops answers

@@ -11,7 +11,7 @@ use Rattle.daide_protocol.specs.Wires.{SessionView, is_closed}
 use Rattle.daide_settings.specs.declared.settings.Settings.{Settings}
 use Rattle.daide_io.specs.Ports.{PortCall, events_of}
 use Rattle.daide_io.specs.ReadyQueue.{ReadyView, woken_all, put_back}
-use Rattle.daide_io.specs.System.{SystemCall, Polls, Accepts, Connects, BeginsTurn, Rests, Retires, Notifies, is_about, last_about}
+use Rattle.daide_io.specs.System.{SystemCall, Polls, Accepts, Connects, Rests, Retires, Notifies, is_about, last_about}
 use Rattle.daide_io.specs.declared.system.Orders.{Orders}
 use Rattle.daide_io.specs.declared.system.Connect.{Connect}
 use Rattle.daide_io.specs.declared.system.Connect.TheVariants.{Ready, Failed, Pending}
@@ -28,13 +28,13 @@ use Rattle.daide_event_loop.specs.Served.{run_limits}
 use Rattle.daide_event_loop.specs.Waiting.{IsIdleSession, IsAtRest, RestingSessionsAreIdle}
 use Rattle.daide_event_loop.proofs.BeginningLemmas.{get_set, changed_there}
 use Rattle.daide_event_loop.proofs.OrderLemmas.{visits_counters}
-use Rattle.daide_event_loop.proofs.FairnessLemmas.{Rejoins, visited_queue}
+use Rattle.daide_event_loop.proofs.FairnessLemmas.{visited_queue}
 use Rattle.daide_event_loop.proofs.ServedLemmas.{ChangesOnlyAt, same_there, one_there, there_then, held_here, turns_there_only, all_turns, all_rests, all_shown}
-use Rattle.daide_event_loop.proofs.ServedLemmas.{Reached, Served, AllServed, IsReached, still, turns_serve, opened_reached, visits_serve, later, heeded_turns, rounds_serve}
+use Rattle.daide_event_loop.proofs.ServedLemmas.{Reached, Served, AllServed, still, turns_serve, opened_reached, visits_serve, later, heeded_turns, rounds_serve}
 use Rattle.daide_event_loop.specs.Served.{IsServedSession}
 use Rattle.daide_event_loop.proofs.WaitingLemmas.{HasRun, idle_turn, last_then, IsElsewhere, last_elsewhere, IsAbsent, absent_is}
 use Rattle.daide_event_loop.proofs.WaitingLemmas.{woken_absent, woken_there, woken_all_absent, put_back_absent, put_back_there, taken_absent}
-use Rattle.daide_event_loop.proofs.AcceptLemmas.{KeepsPlaces, HasPlaces, visits_places, taken_places, woken_all_places, before_admission, rounds_places}
+use Rattle.daide_event_loop.proofs.AcceptLemmas.{HasPlaces, visits_places, taken_places, woken_all_places, before_admission, rounds_places}
 
 -- ---- calls about other places
 
@@ -285,15 +285,15 @@ module _ {P : Type 0} (port_transition : P → PortCall → P → Type 0) where
         Visits port_transition visited turns old answers new → AllRest (calls ++ answers) new
     visits_rest calls [] turns old answers new within limits quota held places rest h =
         λ place absent.
-            still_rests calls answers place old new
-            (All-same (IsElsewhere place) answers [] h.1 (All-nil (IsElsewhere place)))
-            (ap (λ (s : ServiceView P). slice_get s.slab.places place) h.2)
-            (rest place (subst (λ (s : ServiceView P). IsAbsent s.ready place) h.2 absent))
+        still_rests calls answers place old new
+        (All-same (IsElsewhere place) answers [] h.1 (All-nil (IsElsewhere place)))
+        (ap (λ (s : ServiceView P). slice_get s.slab.places place) h.2)
+        (rest place (subst (λ (s : ServiceView P). IsAbsent s.ready place) h.2 absent))
     visits_rest calls (other ∷ earlier) turns old answers new within limits quota held places rest h =
         λ place absent.
-            subst (λ (l : List (SystemCall P)). RestsAt l place new)
-            (append_assoc calls h.3 h.4 ∙ ap (λ (l : List (SystemCall P)). calls ++ l) (sym h.6))
-            (by (visits_rest calls earlier h.1 old h.3 h.0 first limits quota held places rest h.7) place absent (other == place) refl)
+        subst (λ (l : List (SystemCall P)). RestsAt l place new)
+        (append_assoc calls h.3 h.4 ∙ ap (λ (l : List (SystemCall P)). calls ++ l) (sym h.6))
+        (by (visits_rest calls earlier h.1 old h.3 h.0 first limits quota held places rest h.7) place absent (other == place) refl)
       where
         first : (n : ℕ) (ports : P) → Contains h.3 (Connects n (Ready ports)) → Contains all (Connects n (Ready ports))
         first n ports c =

@@ -1,6 +1,6 @@
 -- The progress of a turn, the cause and the report of an ending, the counters, and how a round begins. The expected values are
 -- independent of the definitions, so a result in place of its neighbour does not check.
-use Rattle.std.proofs.Common.{◌≡◌, ℕ, zero, suc, ◌+◌, Bool, true, false, List, [], ◌∷◌, ◌++◌, map, replicate, Some, None, Option, refl}
+use Rattle.std.proofs.Common.{◌≡◌, ℕ, ◌+◌, true, false, List, [], ◌∷◌, map, replicate, Some, None, Option, refl}
 use Rattle.std.specs.List.{range_with_len}
 use Rattle.daide_frame.specs.declared.side.Side.{Side}
 use Rattle.daide_frame.specs.declared.side.Side.TheVariants.{Bot, Server}
@@ -33,11 +33,10 @@ use Rattle.daide_settings.specs.declared.settings.Settings.{Settings}
 use Rattle.daide_event_loop.specs.declared.admission_counters.AdmissionCounters.{AdmissionCounters}
 use Rattle.daide_driver.specs.declared.place.SlabPlace.{SlabPlace}
 use Rattle.daide_driver.specs.declared.place.SlabPlace.TheVariants as Places
-use Rattle.daide_io.specs.ReadyQueue.{ReadyView}
 use Rattle.daide_event_loop.specs.Serving.{ServiceView, is_done, is_queue_empty, have_all_come, has_room, sessions_in, pending_in}
 use Rattle.daide_settings.specs.BotsInAll.{bots_in_all}
 use Rattle.daide_event_loop.specs.Serving.{cause_by, parting, end_of, heeding, opening}
-use Rattle.daide_io.specs.System.{SystemCall, Polls, Shows, BeginsTurn, Retires, Notifies, no_orders}
+use Rattle.daide_io.specs.System.{Polls, Shows, BeginsTurn, Retires, Notifies, no_orders}
 
 -- ---- progress
 

@@ -29,15 +29,15 @@ use Rattle.daide_io.specs.declared.system.SessionStatus.{SessionStatus}
 use Rattle.daide_event_loop.specs.declared.admission_counters.AdmissionCounters.{AdmissionCounters}
 use Rattle.daide_event_loop.specs.QuotaPorts.{QuotaPortsView, Meters, progress_by, beginning_where, RestsBy}
 use Rattle.daide_io.specs.System.{SystemCall, Polls, Shows, Accepts, Connects, BeginsTurn, Rests, Retires, Notifies, status_of}
-use Rattle.daide_event_loop.specs.Serving.{ServiceView, fresh, initial_service, is_done, have_all_come, closed, heeding, shows_where, opening, polled}
-use Rattle.daide_event_loop.specs.Serving.{OpensTurn, TakesTurn, TurnsInRow, LeavesVisit, TurnsAndLeaves, MeetsBy, VisitsBy, Visits, with_free_place, queued_again}
+use Rattle.daide_event_loop.specs.Serving.{ServiceView, fresh, initial_service, is_done, have_all_come, closed, shows_where, opening, polled}
+use Rattle.daide_event_loop.specs.Serving.{OpensTurn, TakesTurn, TurnsInRow, LeavesVisit, TurnsAndLeaves, MeetsBy, VisitsBy, Visits, queued_again}
 use Rattle.daide_event_loop.specs.Serving.{last_words, parting, cause_by, end_of, Admits, accepted_at, Round, Rounds, BreaksOff, sessions_in, pending_in}
 use Rattle.daide_event_loop.specs.Served.{IsServedSession, run_limits, IsSessionOfRun, IsServed, IsEndOf, RetiresClosed, AreServed}
 use Rattle.daide_event_loop.specs.Served.{IsWholeRun, comes, connects, retires, unreached, sum_over_calls}
 use Rattle.daide_event_loop.proofs.BeginningLemmas.{get_set, changed_there}
 use Rattle.daide_event_loop.proofs.CauseLemmas.{IsCut, cut_begins, cut_begun, cut_turn, cut_cause, cut_field}
 use Rattle.daide_event_loop.proofs.CountLemmas.{count_first, Counts, counts_then, opening_counts, visits_counts, admission_counts}
-use Rattle.daide_event_loop.proofs.OrderLemmas.{Limited, first_limit, limit_then, visits_counters, visit_counters}
+use Rattle.daide_event_loop.proofs.OrderLemmas.{Limited, first_limit, limit_then, visits_counters}
 
 -- ---- progress
 
@@ -310,7 +310,6 @@ module _ {P : Type 0} (port_transition : P → PortCall → P → Type 0) (setti
           cut_field h.2.state place.0.state place.1.first_synthetic_end h.2.cut,
         )
 
-
     spoken : (b : Bool) → All Gone (last_words b)
     spoken true = All-cons Gone (Notifies TurnsSpent) [] tt (All-nil Gone)
     spoken false = All-nil Gone
@@ -444,9 +443,10 @@ module _ {P : Type 0} (port_transition : P → PortCall → P → Type 0) (setti
             let first = opened_reached old place ports opens.0 limits quota opens.1
             (within place ports (subst (λ (l : List (SystemCall P)). Contains l (Connects place (Ready ports))) (sym e)
             (0, omega arith, refl))) in
-            let goes = given_turns (record old { slab = m.0 }) place turns told new
-            ((λ other apart held_there found. held other held_there (sym (only.beside other apart) ∙ found)),
-            held_here m.0 place now (Reached place) at first) m.2 in
+            let goes = given_turns (record old { slab = m.0 }) place turns told new (
+              (λ other apart held_there found. held other held_there (sym (only.beside other apart) ∙ found)),
+              held_here m.0 place now (Reached place) at first,
+            ) m.2 in
             record {
               limits = goes.limits ∙ only.limits;
               held = goes.held;

@@ -1,21 +1,26 @@
 -- The sessions that are shown, the visits of a round so far, and the rounds of a run.
-use Rattle.std.proofs.Common.{◌≡◌, ℕ, zero, suc, ◌+◌, Bool, true, false, List, [], ◌∷◌, ◌++◌, Option, Some, None}
-use Rattle.std.proofs.Common.{refl, ap, ◌∙◌, subst, add-one, take, arith, ◌<◌, inr, sym, Result, Ok, Err}
-use Rattle.std.specs.Prelude.{length, slice_get, IfErr}
+use Rattle.std.proofs.Common.{◌≡◌, ℕ, zero, suc, ◌+◌, Bool, true, false, List, [], ◌∷◌, ◌++◌, Some}
+use Rattle.std.proofs.Common.{refl, ap, ◌∙◌, subst, add-one, take, arith, ◌<◌, ◌≤◌, inr, sym, Result, Ok, Err}
+use Rattle.std.proofs.lemmas.Bool.Decides.{nat_tests}
+use Rattle.std.specs.Prelude.{slice_get, IfErr, OnErr}
 use Rattle.std.specs.Result.{IsErrAnd}
 use Rattle.daide_protocol.specs.Wires.{SessionView}
 use Rattle.daide_io.specs.Ports.{PortCall}
 use Rattle.daide_io.specs.ReadyQueue.{queued_places}
 use Rattle.daide_driver.specs.declared.place.SlabPlace.{SlabPlace}
 use Rattle.daide_driver.specs.declared.place.SlabPlace.TheVariants.{Free, Kept, Held}
-use Rattle.daide_driver.specs.Slab.{is_so, is_held}
+use Rattle.daide_driver.specs.Slab.{is_so, is_at, is_held, IfHeldAt}
 use Rattle.daide_event_loop.specs.QuotaPorts.{QuotaPortsView}
-use Rattle.daide_io.specs.System.{SystemCall, Shows, TransitsBy, status_of}
+use Rattle.daide_io.specs.declared.byte_counts.ByteCounts.{ByteCounts}
+use Rattle.daide_io.specs.declared.system.Orders.{Orders}
+use Rattle.daide_io.specs.declared.system.SessionStatus.{SessionStatus}
+use Rattle.daide_io.specs.System.{SystemCall, Polls, Shows, TransitsBy, status_of}
 use Rattle.daide_settings.specs.declared.settings.Settings.{Settings}
 use Rattle.daide_event_loop.specs.declared.serving.ServeFault.{ServeFault}
 use Rattle.daide_event_loop.specs.declared.serving.ServeFault.TheVariants as Faults
-use Rattle.daide_event_loop.specs.Serving.{ServiceView, shows, Visits, VisitsNext, Round, Rounds, is_done, initial_service}
+use Rattle.daide_event_loop.specs.Serving.{ServiceView, is_queue_empty, shows, shows_where, opening, Visits, VisitsNext, VisitsReady, has_room, Round, Rounds, is_done, initial_service}
 use Rattle.daide_event_loop.specs.Serving.{BreaksOff, GivesUp}
+use Rattle.daide_event_loop.proofs.BeginningLemmas.{held_in}
 use Rattle.daide_event_loop.proofs.TransitLemmas.{transits_then}
 
 -- ---- sessions are shown
@@ -50,6 +55,24 @@ module _ {P : Type 0} where
   show_none (Held now ∷ xs) (suc i) e =
       ap (λ (calls : List (SystemCall P)). Shows now.1.ports (status_of now.0 now.1.bytes) ∷ calls) (show_none xs i e)
 
+module _ {P S : Type 0} (transition : S → SystemCall P → S → Type 0) where
+  -- the call for one more session, by what the slab returned of it
+  pub shown : (first s t : S) (places : List (SlabPlace (SessionView × QuotaPortsView P))) (i : ℕ) (session : SessionView)
+      (own : QuotaPortsView P) (ports : P) (bytes : ByteCounts) (status : SessionStatus) →
+      is_at is_held places i ≡ true → IfHeldAt places i (λ held. session ≡ held.0) → IfHeldAt places i (λ held. own ≡ held.1) →
+      ports ≡ own.ports → bytes ≡ own.bytes → status ≡ status_of session bytes →
+      TransitsBy transition first (shows (take i places)) s → transition s (Shows ports status) t →
+      TransitsBy transition first (shows (take (suc i) places)) t
+  shown first s t places i session own ports bytes status held is_session is_own is_ports is_bytes is_status before shows_it =
+      let found = held_in (slice_get places i) held in
+      let now = found.0 in
+      let a : session ≡ now.0 = is_session now found.1 in
+      let b : own ≡ now.1 = is_own now found.1 in
+      let call : Shows ports status ≡ Shows now.1.ports (status_of now.0 now.1.bytes) = cc in
+      rw (show_more places i now found.1)
+      (transits_then transition (shows (take i places)) (Shows now.1.ports (status_of now.0 now.1.bytes) ∷ []) first s t before
+      (t, subst (λ (one : SystemCall P). transition s one t) call shows_it, refl))
+
 -- ---- the visits of a round
 
 module _ {P S : Type 0} (port_transition : P → PortCall → P → Type 0) (transition : S → SystemCall P → S → Type 0) where
@@ -73,7 +96,56 @@ module _ {P S : Type 0} (port_transition : P → PortCall → P → Type 0) (tra
     visits = (mid, before, more, h.answers, answers, refl, refl, h.visits, visits);
   }
 
+-- whether there is room for one visit more, as the code tests it
+pub some_room : (turns : ℕ) → turns + 8 ≤ 32 → has_room turns ≡ true
+some_room turns h = grind (arith, nat_tests, h)
+
+no_room : (turns : ℕ) → 32 < turns + 8 → has_room turns ≡ false
+no_room turns h = grind (arith, nat_tests, h)
+
+module _ {P S : Type 0} (port_transition : P → PortCall → P → Type 0) (transition : S → SystemCall P → S → Type 0) where
+  -- all visits of a round, with their trace
+  abbrev pub VisitedAll : S → ServiceView P → ServiceView P → S → Type 0
+  VisitedAll first old new system = (answers : List (SystemCall P)) × TransitsBy transition first answers system
+      × VisitsReady port_transition old answers new
+
+  -- no place is left in the queue
+  pub none_left : (s t : S) (old mid new : ServiceView P) (turns : ℕ) → Visited port_transition transition s old turns mid t → new ≡ mid →
+      queued_places new.ready ≡ [] → VisitedAll s old new t
+  none_left s t old mid new turns h same none = (
+    h.answers,
+    h.transits,
+    record {
+      visited = h.visited;
+      turns = turns;
+      takes = subst (λ (run : ServiceView P). Visits port_transition h.visited turns old h.answers run) (sym same) h.visits;
+      ends = λ room. none;
+    },
+  )
+
+  -- or the round had its turns
+  pub all_had : (s t : S) (old new : ServiceView P) (turns : ℕ) → Visited port_transition transition s old turns new t → 32 < turns + 8 →
+      VisitedAll s old new t
+  all_had s t old new turns h far = (
+    h.answers,
+    h.transits,
+    record {
+      visited = h.visited;
+      turns = turns;
+      takes = h.visits;
+      ends = λ room. absurd (let gone = no_room turns far in cc);
+    },
+  )
+
 -- ---- rounds
+
+-- a round begins with a poll, and with the sessions that are shown
+pub opened : {P S : Type 0} (transition : S → SystemCall P → S → Type 0) (s t u : S) (run : ServiceView P) (may_block : Bool)
+    (woken : List ℕ) (orders : Orders) → may_block ≡ is_queue_empty run → transition s (Polls may_block woken orders) t →
+    TransitsBy transition t (shows_where orders.shows_sessions run.slab.places) u →
+    TransitsBy transition s (opening woken orders run) u
+opened transition s t u run may_block woken orders empty polls shows =
+    (t, subst (λ (b : Bool). transition s (Polls b woken orders) t) empty polls, shows)
 
 module _ {P S : Type 0} (port_transition : P → PortCall → P → Type 0) (transition : S → SystemCall P → S → Type 0) where
   -- the first n rounds, with their trace of system calls
@@ -124,3 +196,8 @@ pub at_memory : {A : Type 0} (r : Result A ServeFault) (fault : ServeFault) (Hol
     IsErrAnd r (λ told. told ≡ fault) → fault ≡ Faults.Memory → Holds Faults.Memory → IfErr r Holds
 at_memory (Ok x) fault Holds told e h = tt
 at_memory (Err other) fault Holds told e h = subst Holds (sym (told ∙ e)) h
+
+-- what holds in any case holds at an error
+pub at_error : {A E : Type 0} (r : Result A E) (P : Type 0) → P → OnErr r P
+at_error (Ok x) P h = tt
+at_error (Err e) P h = h

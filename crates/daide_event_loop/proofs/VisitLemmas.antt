@@ -1,22 +1,23 @@
 -- The steps of a visit, as the loop makes them, together are the visit.
-use Rattle.std.proofs.Common.{◌≡◌, ℕ, ◌<◌, Bool, true, false, List, [], ◌∷◌, ◌++◌, Option, Some, None}
-use Rattle.std.proofs.Common.{refl, sym, ap, ◌∙◌, subst}
-use Rattle.std.specs.Prelude.{not, slice_get, if◌then◌else◌}
+use Rattle.std.proofs.Common.{◌≡◌, ℕ, ◌<◌, ◌≤◌, Bool, true, false, List, [], ◌∷◌, ◌++◌, Option, Some, None}
+use Rattle.std.proofs.Common.{refl, sym, ap, ◌∙◌, subst, arith}
+use Rattle.std.specs.Prelude.{slice_get, if◌then◌else◌}
 use Rattle.daide_protocol.specs.declared.ending.Ending.{Ending}
 use Rattle.daide_protocol.specs.declared.account.Account.{Account}
 use Rattle.daide_protocol.specs.Machine.{ending_in}
 use Rattle.daide_protocol.specs.Wires.{SessionView, is_closed}
 use Rattle.daide_io.specs.declared.fault_field.FaultField.{FaultField}
 use Rattle.daide_io.specs.Ports.{PortCall}
-use Rattle.daide_io.specs.ReadyQueue.{put_back}
-use Rattle.daide_io.specs.System.{SystemCall, TransitsBy}
+use Rattle.daide_io.specs.declared.system.Connect.{Connect}
+use Rattle.daide_io.specs.declared.system.Connect.TheVariants.{Ready, Failed, Pending}
+use Rattle.daide_io.specs.System.{SystemCall, Connects, TransitsBy}
 use Rattle.daide_driver.specs.Hub.{IsReportedOf}
 use Rattle.daide_driver.specs.declared.place.SlabPlace.{SlabPlace}
 use Rattle.daide_driver.specs.declared.place.SlabPlace.TheVariants.{Free, Kept, Held}
-use Rattle.daide_driver.specs.Slab.{SlabView, IsAt, IfHeldAt, is_so, is_at, is_kept, is_held, with_place}
+use Rattle.daide_driver.specs.Slab.{SlabView, IsAt, IfHeldAt, is_so, is_at, is_kept, is_held, with_place, OpensAt}
 use Rattle.daide_event_loop.specs.QuotaPorts.{QuotaPortsView, RestsBy}
-use Rattle.daide_event_loop.specs.Serving.{ServiceView, TakesTurns, TurnsAndLeaves, VisitsBy, parting, end_by, end_of, with_free_place, queued_again}
-use Rattle.daide_event_loop.proofs.BeginningLemmas.{held_in, turns_there}
+use Rattle.daide_event_loop.specs.Serving.{ServiceView, TakesTurns, TurnsAndLeaves, MeetsBy, VisitsBy, VisitsPlace, parting, end_by, end_of, queued_again}
+use Rattle.daide_event_loop.proofs.BeginningLemmas.{get_set, held_in, turns_there}
 use Rattle.daide_event_loop.proofs.TransitLemmas.{transits_then}
 
 -- what a removed session reports is its own end
@@ -35,6 +36,11 @@ module _ {P S : Type 0} (port_transition : P → PortCall → P → Type 0) (tra
   HadTurns first old place turns new system =
       (answers : List (SystemCall P)) × TransitsBy transition first answers system × TakesTurns port_transition old place turns answers new
 
+  -- turns with what comes after them, with their trace
+  abbrev pub HadVisit : S → ServiceView P → ℕ → ℕ → ServiceView P → S → Type 0
+  HadVisit first old place turns new system = (answers : List (SystemCall P)) × TransitsBy transition first answers system
+      × TurnsAndLeaves port_transition old place turns answers new
+
   -- the session is still there
   pub there_after : (s t : S) (old new : SlabView (QuotaPortsView P)) (place turns : ℕ) → HadTurns s old place turns new t →
       is_at is_held new.places place ≡ true
@@ -47,8 +53,7 @@ module _ {P S : Type 0} (port_transition : P → PortCall → P → Type 0) (tra
       slab ≡ with_place turned place Free → IfHeldAt turned.places place (λ held. ports ≡ held.1) →
       IfHeldAt turned.places place (λ held. IsReportedOf held.0 account ending field) →
       TransitsBy transition t (parting place ports (end_by ports.first_synthetic_end (Some ending) account field)) u →
-      (answers : List (SystemCall P)) × TransitsBy transition s answers u
-      × TurnsAndLeaves port_transition old place turns answers (record old { slab = slab })
+      HadVisit s old place turns (record old { slab = slab }) u
   retired s t u old place turns turned slab session ports account ending field h is closed free own reported goes =
       let found = held_in (slice_get turned.places place) (there_after s t old.slab turned place turns h) in
       let now = found.0 in
@@ -70,15 +75,14 @@ module _ {P S : Type 0} (port_transition : P → PortCall → P → Type 0) (tra
       )
 
   -- an open one rests, or joins the end of the queue
-  pub left_open : (s t u : S) (old : ServiceView P) (place turns : ℕ) (turned : SlabView (QuotaPortsView P)) (session : SessionView)
+  pub left_open : (s t u : S) (old new : ServiceView P) (place turns : ℕ) (turned : SlabView (QuotaPortsView P)) (session : SessionView)
       (ports : QuotaPortsView P) (rests : Bool) →
       HadTurns s old.slab place turns turned t → IfHeldAt turned.places place (λ held. session ≡ held.0) → is_closed session ≡ false →
       IfHeldAt turned.places place (λ held. ports ≡ held.1) →
       ((answers : List (SystemCall P)) × TransitsBy transition t answers u × RestsBy ports.made_progress place ports.ports answers rests) →
-      (answers : List (SystemCall P)) × TransitsBy transition s answers u
-      × TurnsAndLeaves port_transition old place turns answers
-      (if rests then record old { slab = turned } else queued_again (record old { slab = turned }) place)
-  left_open s t u old place turns turned session ports rests h is lives own rest =
+      new ≡ (if rests then record old { slab = turned } else queued_again (record old { slab = turned }) place) →
+      HadVisit s old place turns new u
+  left_open s t u old new place turns turned session ports rests h is lives own rest leaves =
       let found = held_in (slice_get turned.places place) (there_after s t old.slab turned place turns h) in
       let now = found.0 in
       let still : is_closed now.0 ≡ false = ap is_closed (sym (is now found.1)) ∙ lives in (
@@ -91,7 +95,7 @@ module _ {P S : Type 0} (port_transition : P → PortCall → P → Type 0) (tra
           leaving = rest.0;
           takes = h.2;
           there = found.1;
-          leaves = rw still (rests, subst (λ (m : QuotaPortsView P). RestsBy m.made_progress place m.ports rest.0 rests) (own now found.1) rest.2, refl);
+          leaves = rw still (rests, subst (λ (m : QuotaPortsView P). RestsBy m.made_progress place m.ports rest.0 rests) (own now found.1) rest.2, leaves);
           asked = refl;
         },
       )
@@ -116,9 +120,38 @@ module _ {P : Type 0} (port_transition : P → PortCall → P → Type 0) where
   visited_held (Some Kept) old place turns answers new e h = absurd (cc)
   visited_held (Some (Held now)) old place turns answers new e h = h
 
+  -- one that is kept is visited by the result of its connect
+  pub visited_kept : (old : ServiceView P) (place turns : ℕ) (connect : Connect P) (told : List (SystemCall P)) (new : ServiceView P) →
+      IsAt old.slab place Kept → MeetsBy port_transition connect old place turns told new →
+      VisitsPlace port_transition old place turns (Connects place connect ∷ told) new
+  visited_kept old place turns connect told new kept h =
+      subst (λ (at : Option (SlabPlace (SessionView × QuotaPortsView P))). VisitsBy port_transition at old place turns (Connects place connect ∷ told) new)
+      (sym kept) (connect, told, refl, h)
+
+  -- a visit counts one turn at least, and a quantum at most
+  pub visit_turns : (at : Option (SlabPlace (SessionView × QuotaPortsView P))) (old : ServiceView P) (place turns : ℕ) (answers : List (SystemCall P))
+      (new : ServiceView P) → VisitsBy port_transition at old place turns answers new → (0 < turns) × (turns ≤ 8)
+  visit_turns None old place turns answers new h = let one = h.0 in (omega (arith, one), omega (arith, one))
+  visit_turns (Some Free) old place turns answers new h = let one = h.0 in (omega (arith, one), omega (arith, one))
+  visit_turns (Some Kept) old place turns answers new h = by h.0 h.1 h.3
+    where
+      by : (connect : Connect P) (told : List (SystemCall P)) → MeetsBy port_transition connect old place turns told new →
+          (0 < turns) × (turns ≤ 8)
+      by (Ready ports) told m = (m.2.takes.some, m.2.takes.few)
+      by Failed told m = let one = m.0 in (omega (arith, one), omega (arith, one))
+      by Pending told m = let one = m.0 in (omega (arith, one), omega (arith, one))
+  visit_turns (Some (Held now)) old place turns answers new h = (h.takes.some, h.takes.few)
+
 -- a place that is kept
 pub kept_in : {T : Type 0} (at : Option (SlabPlace T)) → is_so is_kept at ≡ true → at ≡ Some Kept
 kept_in None e = absurd (cc)
 kept_in (Some Free) e = absurd (cc)
 kept_in (Some Kept) e = refl
 kept_in (Some (Held now)) e = absurd (cc)
+
+-- a session that begins is there
+pub opened_there : {P : Type 0} (old : SlabView P) (place : ℕ) (ports : P) (new : SlabView P) → IsAt old place Kept →
+    OpensAt old place ports new → is_at is_held new.places place ≡ true
+opened_there {P} old place ports new kept h =
+    ap (λ (slab : SlabView P). is_at is_held slab.places place) h.2
+    ∙ ap (is_so is_held) (get_set old.places place (Held (h.0, ports)) Kept kept)

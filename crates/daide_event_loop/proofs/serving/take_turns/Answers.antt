@@ -1,4 +1,4 @@
-use Rattle.std.proofs.Common.{◌≡◌, ◌∙◌, arith}
+use Rattle.std.proofs.Common.{◌∙◌, arith}
 use Rattle.daide_event_loop.proofs.BeginningLemmas.{none_taken, another_turn, last_turn, all_taken, turned_there, moved_there}
 use Rattle.daide_event_loop.proofs.serving.take_turns.Goals as goal
 
