@@ -71,10 +71,15 @@ class Match:
         self.process.communicate()
         shutil.rmtree(self.room, ignore_errors=True)
 
-    def comes(self):
-        """A bot connects, and the server accepts the connection to it. Returns both ends."""
+    def connects(self):
+        """A bot connects. Returns its end."""
         bot = socket.create_connection((HOST, self.port), SECONDS)
         self.bots.append(bot)
+        return bot
+
+    def comes(self):
+        """A bot connects, and the server accepts the connection to it. Returns both ends."""
+        bot = self.connects()
         server, _ = self.listener.accept()
         server.settimeout(SECONDS)
         self.servers.append(server)
@@ -191,8 +196,7 @@ def status_is_a_table(program):
                 same(line, text, "the line of a session")
             if len(line) > 169:
                 raise Wrong(f"a line has {len(line)} bytes")
-        third = socket.create_connection((HOST, match.port), SECONDS)
-        match.bots.append(third)
+        match.connects()
         settled(match, "table", lambda text: "; bots may wait for a place\n" in text)
 
 
@@ -204,7 +208,7 @@ def status_counts_what_is_over(program):
         same(received(server, len(FM)), FM, "received by the server")
         for stream in (server, match.listener, bot):
             stream.close()
-        match.bots.append(socket.create_connection((HOST, match.port), SECONDS))
+        match.connects()
         text = settled(match, "table", lambda text: text.startswith("0 open, 0 connecting") and " 1 unreached, " in text)
         same(re.sub(r"up \d+ s", "up", text.splitlines()[0]), "0 open, 0 connecting, 1 served, 1 unreached, up", "the first line")
 
@@ -553,12 +557,14 @@ def answers_of_others_are_told(program):
     with tempfile.TemporaryDirectory() as room:
         path, settings = f"{room}/control", pathlib.Path(room) / "settings.toml"
         settings.write_text(f"listen = '{HOST}:1'\nserver = '{HOST}:1'\ncontrol = '{path}'\n", encoding="utf-8")
-        unknown = b"unknown request\n"
+        unknown, longest = b"unknown request\n", b"x" * 4_194_304
         rows = (
             ("status", b"", "", "no answer", 1),
             ("status --format json", b"", "", "no answer", 1),
             ("status", unknown, "", "the run does not know the request", 1),
             ("status", b"some status\n", "some status\n", None, 0),
+            ("status", longest, longest.decode(), None, 0),
+            ("status", longest + b"x", "", "answer is too long", 1),
             ("stop", unknown, "", "the run does not know the request", 1),
             ("stop", b"", "", None, 0),
         )
