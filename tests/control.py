@@ -586,26 +586,42 @@ def answers_of_others_are_told(program):
                      f"'{words}' that gets {answer!r}")
 
 
+def script_ends_a_session(program, send, number, change=None):
+    """Checks that the script at the top ends a session with FM at this signal, and has the run's status. Before that the
+    file of the settings is changed."""
+    with tempfile.TemporaryDirectory() as room:
+        script = pathlib.Path(room) / "daide-gate"
+        shutil.copy(TOP / "daide-gate", script)
+        (pathlib.Path(room) / "bin").mkdir()
+        (pathlib.Path(room) / "crates").mkdir()
+        (pathlib.Path(room) / "crates.txt").write_text("", encoding="utf-8")
+        built = pathlib.Path(room) / "bin" / "daide-gate"
+        shutil.copy(program, built)
+        os.utime(built, (time.time() + 60,) * 2)
+        with Match([str(script)], "sessions = 4\nendless = true") as match:
+            bot, server = match.opens()
+            if change:
+                change(match.settings)
+            send(match.process.pid, number)
+            same((rest(bot), rest(server)), (FM, FM), "received by both sides")
+            bot.close()
+            server.close()
+            same(match.ended()[0], 0, "status of the script")
+
+
 def script_stops_a_run_by_the_protocol(program):
-    """At SIGTERM, SIGINT and SIGHUP the script at the top ends each session with FM, and has the run's status. A closed
-    terminal sends its signal to the program as well."""
+    """At SIGTERM, SIGINT and SIGHUP. A closed terminal sends its signal to the program as well."""
     for number, send in ((signal.SIGTERM, os.kill), (signal.SIGINT, os.killpg), (signal.SIGHUP, os.killpg)):
-        with tempfile.TemporaryDirectory() as room:
-            script = pathlib.Path(room) / "daide-gate"
-            shutil.copy(TOP / "daide-gate", script)
-            (pathlib.Path(room) / "bin").mkdir()
-            (pathlib.Path(room) / "crates").mkdir()
-            (pathlib.Path(room) / "crates.txt").write_text("", encoding="utf-8")
-            built = pathlib.Path(room) / "bin" / "daide-gate"
-            shutil.copy(program, built)
-            os.utime(built, (time.time() + 60,) * 2)
-            with Match([str(script)], "sessions = 4\nendless = true") as match:
-                bot, server = match.opens()
-                send(match.process.pid, number)
-                same((rest(bot), rest(server)), (FM, FM), "received by both sides")
-                bot.close()
-                server.close()
-                same(match.ended()[0], 0, "status of the script")
+        script_ends_a_session(program, send, number)
+
+
+def script_stops_a_run_whose_settings_changed(program):
+    """An organiser prepares the next run in the same file, or removes it."""
+    def renames(settings):
+        settings.write_text(settings.read_text(encoding="utf-8").replace("control = '", "control = '/nowhere"), encoding="utf-8")
+
+    for change in (renames, os.remove):
+        script_ends_a_session(program, os.kill, signal.SIGTERM, change)
 
 
 TESTS = [
@@ -629,4 +645,5 @@ TESTS = [
     requests_without_a_run_say_why,
     answers_of_others_are_told,
     script_stops_a_run_by_the_protocol,
+    script_stops_a_run_whose_settings_changed,
 ]
