@@ -22,6 +22,8 @@ mod messages;
 #[cfg(test)]
 mod parts;
 #[cfg(test)]
+mod powers;
+#[cfg(test)]
 mod ranges;
 #[cfg(test)]
 mod rules;
