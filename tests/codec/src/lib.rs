@@ -16,6 +16,8 @@ mod grammar;
 #[cfg(test)]
 mod judging;
 #[cfg(test)]
+mod limits;
+#[cfg(test)]
 mod log;
 #[cfg(test)]
 mod messages;
