@@ -86,8 +86,8 @@ number_after n (c ∷ cs) k some few e =
     let front : m / 10 ≡ n = omega arith in
     let last : 48 + m % 10 ≡ c = omega arith in (
       after.0 ∙ ap (λ (l : List ℕ). l ++ cs)
-      (decimal_step m (omega arith) (omega arith) ∙ ap (λ (d : ℕ). decimal (m / 10) ++ d ∷ []) last
-      ∙ ap (λ (d : ℕ). decimal d ++ c ∷ []) front) ∙ append_assoc (decimal n) (c ∷ []) cs,
+          (decimal_step m (omega arith) (omega arith) ∙ ap (λ (d : ℕ). decimal (m / 10) ++ d ∷ []) last
+          ∙ ap (λ (d : ℕ). decimal d ++ c ∷ []) front) ∙ append_assoc (decimal n) (c ∷ []) cs,
       after.1,
     )
 
@@ -125,7 +125,7 @@ plain_decimal (c ∷ d ∷ cs) k e = go (eqb_tells c 48) e
         let after = number_after (c - 48) (d ∷ cs) k (omega (arith, first.0, t.1)) (omega (arith, first.1)) first.2 in
         let digit : 48 + (c - 48) ≡ c = omega (arith, first.0) in (
           sym (after.0 ∙ ap (λ (l : List ℕ). l ++ (d ∷ cs))
-          (decimal_digit (c - 48) (omega (arith, first.1)) ∙ ap (λ (x : ℕ). x ∷ []) digit)),
+              (decimal_digit (c - 48) (omega (arith, first.1)) ∙ ap (λ (x : ℕ). x ∷ []) digit)),
           after.1,
         )
 
@@ -163,25 +163,31 @@ word_is line event e = by_comment (is_comment line) refl e
   where
     after_bot : Option LogEvent
     after_bot = cond (bytes_eq line (codes "end server")) (Some (EndOf Server)) None
+
     after_stop : Option LogEvent
     after_stop = cond (bytes_eq line (codes "end bot")) (Some (EndOf Bot)) after_bot
+
     after_timer : Option LogEvent
     after_timer = cond (bytes_eq line (codes "stop")) (Some StopLine) after_stop
+
     by_bot : after_bot ≡ Some event → IsEventLine line event
     by_bot h = elim (word_or line (codes "end server") (EndOf Server) event None h) [
       | inl a ↦ subst (IsEventLine line) a.1 a.0
       | inr rest ↦ absurd cc
     ]
+
     by_stop : after_stop ≡ Some event → IsEventLine line event
     by_stop h = elim (word_or line (codes "end bot") (EndOf Bot) event after_bot h) [
       | inl a ↦ subst (IsEventLine line) a.1 a.0
       | inr more ↦ by_bot more
     ]
+
     by_timer : after_timer ≡ Some event → IsEventLine line event
     by_timer h = elim (word_or line (codes "stop") StopLine event after_stop h) [
       | inl a ↦ subst (IsEventLine line) a.1 a.0
       | inr more ↦ by_stop more
     ]
+
     by_comment : (b : Bool) → is_comment line ≡ b →
         cond b (Some Silence) (cond (bytes_eq line (codes "timer")) (Some ImTimerLine) after_timer) ≡ Some event →
         IsEventLine line event
@@ -236,6 +242,7 @@ session_is sessions line parted event p h = by_number (plain_number parted.word)
           event_is parted.rest loud_event sound.0,
           sound.1,
         )
+
     by_limits : (number : ℕ) → plain_number parted.word ≡ Some number → (b : Bool) →
         (leb 1 number && leb number sessions) ≡ b →
         event_of_session (cond b (Some number) None) (loud (event_of_line parted.rest)) ≡ Some event →
@@ -244,6 +251,7 @@ session_is sessions line parted event p h = by_number (plain_number parted.word)
         let both = and_parts (leb 1 number) (leb number sessions) b in
         by_event number n (leb-true 1 number both.0, leb-true number sessions both.1) (loud (event_of_line parted.rest)) refl h
     by_limits number n false b h = absurd cc
+
     by_number : (o : Option ℕ) → plain_number parted.word ≡ o →
         event_of_session (within 1 sessions o) (loud (event_of_line parted.rest)) ≡ Some event →
         IsMatchEventLine sessions line event
@@ -259,6 +267,7 @@ match_event_is sessions line event e = by_comment (is_comment line) refl e
         IsMatchEventLine sessions line event
     by_parts None p h = absurd cc
     by_parts (Some parted) p h = session_is sessions line parted event p h
+
     by_comment : (b : Bool) → is_comment line ≡ b →
         cond b (Some Quiet) (match_event_of_parts sessions (parted_at_space line)) ≡ Some event →
         IsMatchEventLine sessions line event
@@ -356,20 +365,24 @@ word_text_is text word e = by_name (parted_at_space text) refl e
           ∙ simp append_assoc,
       parts_are one.word two.word three.word four.word four.rest word h,
     )
+
     by_slot : (one two three : Parted) → parted_at_space text ≡ Some one → parted_at_space one.rest ≡ Some two →
         parted_at_space two.rest ≡ Some three → (o : Option Parted) → parted_at_space three.rest ≡ o →
         word_of_level one.word two.word three.word o ≡ Some word → IsWordText text word
     by_slot one two three a b c None d h = absurd cc
     by_slot one two three a b c (Some four) d h = by_level one two three four a b c d h
+
     by_code : (one two : Parted) → parted_at_space text ≡ Some one → parted_at_space one.rest ≡ Some two →
         (o : Option Parted) → parted_at_space two.rest ≡ o → word_of_slot one.word two.word o ≡ Some word →
         IsWordText text word
     by_code one two a b None c h = absurd cc
     by_code one two a b (Some three) c h = by_slot one two three a b c (parted_at_space three.rest) refl h
+
     by_rest : (one : Parted) → parted_at_space text ≡ Some one → (o : Option Parted) → parted_at_space one.rest ≡ o →
         word_of_code one.word o ≡ Some word → IsWordText text word
     by_rest one a None b h = absurd cc
     by_rest one a (Some two) b h = by_code one two a b (parted_at_space two.rest) refl h
+
     by_name : (o : Option Parted) → parted_at_space text ≡ o → word_of_name o ≡ Some word → IsWordText text word
     by_name None a h = absurd cc
     by_name (Some one) a h = by_rest one a (parted_at_space one.rest) refl h
