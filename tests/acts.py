@@ -257,6 +257,44 @@ class Appears(Act):
 
 
 @dataclass(frozen=True)
+class FillsTheDisk(Act):
+    """The record of session 1 may grow no more, as on a full disk, nor any other file beyond its size."""
+
+    def play(self, stage):
+        size = stage.run.size("session-000001.log")
+        resource.prlimit(stage.run.process.pid, resource.RLIMIT_FSIZE, (size, size))
+        return True
+
+
+@dataclass(frozen=True)
+class Logs(Act):
+    """The program has written this line on standard error, as many times."""
+
+    line: str
+    times: int = 1
+
+    def play(self, stage):
+        if stage.run.told().count(self.line) == self.times:
+            return True
+        # No stream reports a write to a file.
+        stage.awaits_moment(time.monotonic() + 0.01)
+        return False
+
+
+@dataclass(frozen=True)
+class RequestsStop(Act):
+    """A client of the control socket, at this path, requests a stop. The run keeps its connection to the end."""
+
+    path: str
+
+    def play(self, stage):
+        stage.client = socket.socket(socket.AF_UNIX)
+        stage.client.connect(str(stage.run.room / self.path))
+        stage.client.sendall(b"stop\n")
+        return True
+
+
+@dataclass(frozen=True)
 class ReadsErrors(Act):
     """Somebody reads standard error, a pipe, until it is empty."""
 
@@ -282,6 +320,17 @@ class Says(Act):
             raise Wrong(f"its connection failed: {fault}") from None
         if count != len(self.data):
             raise Wrong(f"{count} bytes had room, of {len(self.data)}")
+        return True
+
+
+@dataclass(frozen=True)
+class SaysUrgently(Act):
+    """Sends a byte as urgent data, which is no part of the stream."""
+
+    who: object
+
+    def play(self, stage):
+        stage.peer(self.who).stream.send(b"!", socket.MSG_OOB)
         return True
 
 

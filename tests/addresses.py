@@ -4,6 +4,7 @@ Nothing leaves the machine. The unknown name has a part of more than 63 letters,
 expected lines come from docs/FORMATS.md.
 """
 
+import errno
 import os
 import pathlib
 import re
@@ -13,7 +14,7 @@ import subprocess
 import time
 
 from held import NotPlayed, Wrong, same
-from runs import SECONDS, Folder
+from runs import NOBODY, SECONDS, Folder
 from stage import HOST, free_port, full_listener, open_listener, silent_door
 
 # A name that nobody knows.
@@ -21,9 +22,6 @@ UNKNOWN = f"{'n' * 64}.invalid"
 
 # The time of a connect, in seconds, and the most that its end may be late on a busy machine.
 CONNECT, LATE = 5, 5
-
-# A user who is not root.
-NOBODY = {"user": 65534, "group": 65534, "extra_groups": ()}
 
 
 def settings_of(listen, server, more=""):
@@ -283,6 +281,14 @@ def ipv6_port_that_the_system_chose_is_printed(program):
     chosen_port_is_printed(program, "[::1]", "[::1]", socket.AF_INET6)
 
 
+def run_listens_at_its_address_alone(program):
+    """A bot is refused at another address of the machine, at the same port."""
+    port = free_port()
+    with open_listener() as server, Begun(program, f"{HOST}:{port}", server) as run, socket.socket() as bot:
+        same(run.line(run.process.stdout), "listening\n", "printed")
+        same(bot.connect_ex(("127.0.0.2", port)), errno.ECONNREFUSED, "a connect to 127.0.0.2")
+
+
 def unknown_name_begins_no_run(program):
     """The key and the name are in one line, whatever the words, and nothing is printed. Both are looked up before the
     program listens."""
@@ -313,5 +319,6 @@ TESTS = [
     comment_that_is_not_taken_is_a_fault,
     port_that_the_system_chose_is_printed,
     ipv6_port_that_the_system_chose_is_printed,
+    run_listens_at_its_address_alone,
     unknown_name_begins_no_run,
 ]

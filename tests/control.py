@@ -71,10 +71,15 @@ class Match:
         self.process.communicate()
         shutil.rmtree(self.room, ignore_errors=True)
 
-    def comes(self):
-        """A bot connects, and the server accepts the connection to it. Returns both ends."""
+    def connects(self):
+        """A bot connects. Returns its end."""
         bot = socket.create_connection((HOST, self.port), SECONDS)
         self.bots.append(bot)
+        return bot
+
+    def comes(self):
+        """A bot connects, and the server accepts the connection to it. Returns both ends."""
+        bot = self.connects()
         server, _ = self.listener.accept()
         server.settimeout(SECONDS)
         self.servers.append(server)
@@ -191,8 +196,7 @@ def status_is_a_table(program):
                 same(line, text, "the line of a session")
             if len(line) > 169:
                 raise Wrong(f"a line has {len(line)} bytes")
-        third = socket.create_connection((HOST, match.port), SECONDS)
-        match.bots.append(third)
+        match.connects()
         settled(match, "table", lambda text: "; bots may wait for a place\n" in text)
 
 
@@ -204,7 +208,7 @@ def status_counts_what_is_over(program):
         same(received(server, len(FM)), FM, "received by the server")
         for stream in (server, match.listener, bot):
             stream.close()
-        match.bots.append(socket.create_connection((HOST, match.port), SECONDS))
+        match.connects()
         text = settled(match, "table", lambda text: text.startswith("0 open, 0 connecting") and " 1 unreached, " in text)
         same(re.sub(r"up \d+ s", "up", text.splitlines()[0]), "0 open, 0 connecting, 1 served, 1 unreached, up", "the first line")
 
@@ -553,12 +557,14 @@ def answers_of_others_are_told(program):
     with tempfile.TemporaryDirectory() as room:
         path, settings = f"{room}/control", pathlib.Path(room) / "settings.toml"
         settings.write_text(f"listen = '{HOST}:1'\nserver = '{HOST}:1'\ncontrol = '{path}'\n", encoding="utf-8")
-        unknown = b"unknown request\n"
+        unknown, longest = b"unknown request\n", b"x" * 4_194_304
         rows = (
             ("status", b"", "", "no answer", 1),
             ("status --format json", b"", "", "no answer", 1),
             ("status", unknown, "", "the run does not know the request", 1),
             ("status", b"some status\n", "some status\n", None, 0),
+            ("status", longest, longest.decode(), None, 0),
+            ("status", longest + b"x", "", "answer is too long", 1),
             ("stop", unknown, "", "the run does not know the request", 1),
             ("stop", b"", "", None, 0),
         )
@@ -580,26 +586,42 @@ def answers_of_others_are_told(program):
                      f"'{words}' that gets {answer!r}")
 
 
+def script_ends_a_session(program, send, number, change=None):
+    """Checks that the script at the top ends a session with FM at this signal, and has the run's status. Before that the
+    file of the settings is changed."""
+    with tempfile.TemporaryDirectory() as room:
+        script = pathlib.Path(room) / "daide-gate"
+        shutil.copy(TOP / "daide-gate", script)
+        (pathlib.Path(room) / "bin").mkdir()
+        (pathlib.Path(room) / "crates").mkdir()
+        (pathlib.Path(room) / "crates.txt").write_text("", encoding="utf-8")
+        built = pathlib.Path(room) / "bin" / "daide-gate"
+        shutil.copy(program, built)
+        os.utime(built, (time.time() + 60,) * 2)
+        with Match([str(script)], "sessions = 4\nendless = true") as match:
+            bot, server = match.opens()
+            if change:
+                change(match.settings)
+            send(match.process.pid, number)
+            same((rest(bot), rest(server)), (FM, FM), "received by both sides")
+            bot.close()
+            server.close()
+            same(match.ended()[0], 0, "status of the script")
+
+
 def script_stops_a_run_by_the_protocol(program):
-    """At SIGTERM, SIGINT and SIGHUP the script at the top ends each session with FM, and has the run's status. A closed
-    terminal sends its signal to the program as well."""
+    """At SIGTERM, SIGINT and SIGHUP. A closed terminal sends its signal to the program as well."""
     for number, send in ((signal.SIGTERM, os.kill), (signal.SIGINT, os.killpg), (signal.SIGHUP, os.killpg)):
-        with tempfile.TemporaryDirectory() as room:
-            script = pathlib.Path(room) / "daide-gate"
-            shutil.copy(TOP / "daide-gate", script)
-            (pathlib.Path(room) / "bin").mkdir()
-            (pathlib.Path(room) / "crates").mkdir()
-            (pathlib.Path(room) / "crates.txt").write_text("", encoding="utf-8")
-            built = pathlib.Path(room) / "bin" / "daide-gate"
-            shutil.copy(program, built)
-            os.utime(built, (time.time() + 60,) * 2)
-            with Match([str(script)], "sessions = 4\nendless = true") as match:
-                bot, server = match.opens()
-                send(match.process.pid, number)
-                same((rest(bot), rest(server)), (FM, FM), "received by both sides")
-                bot.close()
-                server.close()
-                same(match.ended()[0], 0, "status of the script")
+        script_ends_a_session(program, send, number)
+
+
+def script_stops_a_run_whose_settings_changed(program):
+    """An organiser prepares the next run in the same file, or removes it."""
+    def renames(settings):
+        settings.write_text(settings.read_text(encoding="utf-8").replace("control = '", "control = '/nowhere"), encoding="utf-8")
+
+    for change in (renames, os.remove):
+        script_ends_a_session(program, os.kill, signal.SIGTERM, change)
 
 
 TESTS = [
@@ -623,4 +645,5 @@ TESTS = [
     requests_without_a_run_say_why,
     answers_of_others_are_told,
     script_stops_a_run_by_the_protocol,
+    script_stops_a_run_whose_settings_changed,
 ]

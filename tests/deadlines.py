@@ -2,7 +2,7 @@
 
 from acts import Bot, Goes, Hears, HearsEnd, Leave, Narrows, Passes, Pours, Rests, Says, Server, Settles, Waits, Within
 from frames import EM_01, FM, IM, LONG_MAP, LONGER_NAME, MISNAMED
-from gateway import joins, opens
+from gateway import STAYS_SILENT, joins, opens
 from stage import Scene
 from stalls import MORE_THAN_FITS
 
@@ -88,6 +88,12 @@ daide-gate: session 1 ended after *.* s: {} silent; bot * relayed 0 prn 0 huh; s
 # The bot's messages are NMEs whose names are longer than what is kept of them.
 NAMED = f"; NME '{'a' * 32}'.."
 
+# The line of an end says after how many seconds it came: eleven, or a few more on a busy machine.
+ENDS_AFTER_ELEVEN = """\
+daide-gate: session 1 began: bot at 127.0.0.1:{0}
+daide-gate: session 1 ended after 1*.* s: no IM in time; bot 0 relayed 0 prn 0 huh; server 0 relayed 0 prn 0 huh; 1 faults; level 0
+"""
+
 # A bot reads no answer, so the gateway reads nothing from it, and nothing from its server, whose messages wait as well.
 # No byte arrives from either for longer than `idle_seconds`. The gateway waits until the bot goes.
 SILENCE_HAS_BEGUN = [
@@ -105,6 +111,10 @@ SILENCE_HAS_BEGUN = [
 ]
 
 SCENES = [
+    Scene(
+        "deadline_after_eleven_seconds_is_waited_for", STAYS_SILENT, "im_seconds = 11", told=ENDS_AFTER_ELEVEN,
+        verbose=True, waits=True,
+    ),
     Scene("im_has_its_own_time", SPEAKS_LATE, "im_seconds = 6\nsessions = 2", waits=True),
     Scene(
         "deadline_beside_260_sockets_is_waited_for", LAST_IS_SILENT,

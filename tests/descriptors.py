@@ -3,13 +3,13 @@
 import time
 
 from acts import (
-    Bot, Comes, Ends, FindsClosed, FindsOpen, FinishesConnect, Frees, Hears, HearsEnd, Hoards, MeetsNobody, Passes,
-    Says, Server,
+    Bot, Comes, Empties, Ends, FindsClosed, FindsOpen, FinishesConnect, Frees, Hears, HearsEnd, Hoards, Logs,
+    MeetsNobody, Passes, RequestsStop, Says, Server,
 )
 from frames import FM, IM
 from gateway import asks, joins
 from held import NotPlayed, Wrong
-from stage import Scene, begun
+from stage import Scene, begun, full_listener
 
 # The number of sessions that end. With four descriptors each, they use fewer than 1,024.
 SESSIONS = 150
@@ -100,15 +100,41 @@ def left_over(count):
     ]
 
 
-WAITS_FOR_ONE = """\
+BEGAN = "daide-gate: session 1 began: bot at 127.0.0.1:{0}\n"
+
+ENDED = (
+    "daide-gate: session 1 ended after *.* s: bot ended; bot 1 relayed 0 prn 0 huh; server 0 relayed 0 prn 0 huh; 0 faults; "
+    "level 0\n"
+)
+
+WAITS_FOR_ONE = f"""\
 daide-gate: bots wait: the system has no descriptor or no memory for another one
-daide-gate: session 1 began: bot at 127.0.0.1:{0}
+{BEGAN}\
 daide-gate: bots are accepted again
-daide-gate: session 1 ended after *.* s: bot ended; bot 1 relayed 0 prn 0 huh; server 0 relayed 0 prn 0 huh; 0 faults; level 0
-"""
+{ENDED}"""
+
+# A bot's connect is pending, and one descriptor is left, for the file of its record. A client of the control socket does
+# not get it. The bot is joined when the system tries its connect again, and its session is recorded.
+CONTROL_WAITS = [
+    Comes(),
+    Logs("session 1 began"),
+    Hoards(1),
+    RequestsStop("control"),
+    Passes(250),
+    Empties(),
+    FinishesConnect(),
+    Says(Bot(0), IM),
+    Hears(Server(0), IM),
+    Ends(Bot(0)),
+    Hears(Server(0), FM),
+]
 
 SCENES = [
     Many("silent_peers_keep_no_bot_out", END_SILENTLY, f"max_sessions = 1\nsessions = {SESSIONS}"),
     Scene("few_descriptors_make_a_bot_wait", left_over(1), told=WAITS_FOR_ONE, verbose=True, waits=True),
     Scene("few_descriptors_make_a_recorded_bot_wait", left_over(2), waits=True, recorded=1),
+    Scene(
+        "control_client_takes_no_last_descriptor", CONTROL_WAITS, "control = 'control'", BEGAN + ENDED,
+        server=full_listener, verbose=True, recorded=1,
+    ),
 ]

@@ -102,8 +102,15 @@ WORD_IS_UNKNOWN = [
 # A bot without a server counts as served.
 NOBODY_SERVES = [Comes(), HearsEnd(Bot(0)), Comes(), HearsEnd(Bot(1))]
 
-# A server with a full queue does not answer at all. The connect is given up after its timeout, and the run goes on.
-NEVER_ANSWERS = [Comes(), HearsEnd(Bot(0))]
+# A server with a full queue does not answer at all. Three bots come at once. The connect of each is given up after its
+# timeout, and the run goes on.
+NEVER_ANSWERS = [*(Comes() for _ in range(3)), *(HearsEnd(Bot(number)) for number in range(3))]
+
+TELLS_OF_THREE = "".join(
+    [f"daide-gate: session {number + 1} began: bot at 127.0.0.1:{{{number}}}\n" for number in range(3)]
+    + [f"daide-gate: session {number + 1} ended after *.* s: no server; bot 0 relayed 0 prn 0 huh; "
+       f"server 0 relayed 0 prn 0 huh; 0 faults; level 0\n{UNREACHED}" for number in range(3)]
+)
 
 # An end that arrives with the last bytes is received after them, although the system reports it only once.
 ENDS_WITH_ITS_LAST = [
@@ -261,7 +268,10 @@ SCENES = [
     Scene("word_of_the_settings_goes_on_to_the_bot", WORD_COMES_FROM_THE_SERVER, WITH_XYZ),
     Scene("word_that_no_settings_have_gets_huh", WORD_IS_UNKNOWN),
     Scene("nobody_listens_at_the_server", NOBODY_SERVES, "sessions = 2", UNREACHED * 2, server=silent_door),
-    Scene("server_that_never_answers_is_given_up", NEVER_ANSWERS, told=UNREACHED, server=full_listener, waits=True),
+    Scene(
+        "server_that_never_answers_is_given_up", NEVER_ANSWERS, "sessions = 3", TELLS_OF_THREE, server=full_listener,
+        verbose=True, in_order=False, waits=True,
+    ),
     Scene("end_that_comes_with_the_last_bytes_is_heard", ENDS_WITH_ITS_LAST),
     Scene("two_sessions_at_once", TWO_AT_ONCE, "sessions = 2"),
     Scene("messages_pass_beside_a_flood", one_floods(1), "sessions = 2"),

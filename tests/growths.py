@@ -13,7 +13,7 @@ import tempfile
 from held import NotPlayed, Wrong, same
 from runs import SECONDS
 
-SOURCE = pathlib.Path(__file__).resolve().parent / "refusing.c"
+HERE = pathlib.Path(__file__).resolve().parent
 COMPILERS = ("cc", "gcc", "clang")
 
 # More allocations than any run makes.
@@ -79,14 +79,14 @@ REFUSED = (b"", b"daide-gate: out of memory\n", 1)
 FEWEST_GROWTHS = 20
 
 
-def compiled(room):
-    """Compiles the library into this folder, and returns its path."""
+def compiled(room, source="refusing.c", *flags):
+    """Compiles the library of this source into this folder, and returns its path."""
     compiler = next(filter(None, map(shutil.which, COMPILERS)), None)
     if not compiler:
         raise NotPlayed("there is no compiler of C")
     library = pathlib.Path(room) / "refusing.so"
-    words = [compiler, "-shared", "-fPIC", "-O1", "-nostdlib", "-fno-builtin", "-o", str(library), str(SOURCE)]
-    ran = subprocess.run(words, capture_output=True, timeout=SECONDS, check=False)
+    words = [compiler, "-shared", "-fPIC", "-O1", "-nostdlib", "-fno-builtin", *flags]
+    ran = subprocess.run([*words, "-o", str(library), str(HERE / source)], capture_output=True, timeout=SECONDS, check=False)
     if ran.returncode:
         raise NotPlayed(f"{compiler} can't compile it, and says {ran.stderr.decode(errors='replace')!r}")
     return library

@@ -26,6 +26,14 @@ while [ -e "$top/wait" ]; do sleep 0.1; done
 ln -s PROGRAM "$1/program"
 """
 
+# Replaces `rt` of the toolchain. Its `rt ci` proves and builds, unless there is a file `fail` in the clone, TOP.
+PROVER = """\
+#!/bin/sh
+[ "$*" = ci ] && [ ! -e TOP/fail ] || { echo 'a goal is open'; exit 1; }
+mkdir -p crates/daide_gate_cli/out
+ln -s PROGRAM crates/daide_gate_cli/out/daide_gate_cli
+"""
+
 # A program whose run never listens, and has the file `began` beside it.
 DEAF = """\
 #!/bin/sh
@@ -158,9 +166,13 @@ def newer_source_makes_the_program_anew(program):
     with Clone(program) as clone:
         clone.run("frame", "GOF")
         clone.has_proved()
-        (clone.crate / "specs" / "main.rt").write_text("// changed", encoding="utf-8")
-        same((clone.run("frame", "GOF"), clone.calls()), ((GOF, "", 0), 1), "with newer definitions, and calls of the compiler")
-        same(clone.version(), "not proved, compiled at commit unknown", "the program with newer definitions")
+        for part in ("specs", "proofs"):
+            same(clone.version(), "proved at commit 0", f"the program before newer {part}")
+            changed = clone.crate / part / "main.rt"
+            changed.write_text("// changed", encoding="utf-8")
+            same((clone.run("frame", "GOF"), clone.calls()), ((GOF, "", 0), 1), f"with newer {part}, and calls of the compiler")
+            same(clone.version(), "not proved, compiled at commit unknown", f"the program with newer {part}")
+            os.utime(changed, (time.time() - 60,) * 2)
         clone.source.write_text("// changed", encoding="utf-8")
         (clone.top / "wait").touch()
         with clone.begin("frame", "GOF") as process:
@@ -230,6 +242,7 @@ def version_says_whether_it_is_proved(program):
         told = clone.run("run", "--verbose", "none.toml")[1].splitlines()
         wanted = ["proved at commit 0", "settings could not be read: none.toml: entity not found"]
         same(told, [f"daide-gate: {line}" for line in wanted], "told of a proved program")
+        same(clone.run("run", "-v", "none.toml")[1].splitlines(), told, "told with -v")
         clone.source.write_text("// changed", encoding="utf-8")
         wanted = ("proved at commit 0, older than the sources", 0)
         same((clone.version(), clone.calls()), wanted, "an older proved program, and calls of the compiler")
@@ -238,6 +251,59 @@ def version_says_whether_it_is_proved(program):
         same(clone.version(), unproved, "a kept program")
         clone.source.write_text("// changed again", encoding="utf-8")
         same((clone.version(), clone.calls()), (f"{unproved}, older than the sources", 1), "an older kept program")
+
+
+def version_names_the_commit(program):
+    """The commit of the sources from which the program was made, and whether there were changes."""
+    with Clone(program) as clone:
+        git = ["git", "-C", str(clone.top), "-c", "user.name=a", "-c", "user.email=a@b"]
+        for words in (["init", "-q"], ["add", "crates", "crates.txt", "HANDLES"], ["commit", "-q", "-m", "a"]):
+            subprocess.run([*git, *words], check=True, timeout=SECONDS)
+        found = subprocess.run([*git, "rev-parse", "HEAD"], capture_output=True, text=True, check=True, timeout=SECONDS)
+        compiled = f"not proved, compiled at commit {found.stdout[:12]}"
+        same(clone.version(), compiled, "the program of a commit")
+        clone.source.write_text("// changed", encoding="utf-8")
+        clone.run("frame", "GOF")
+        same(clone.version(), f"{compiled}, with changes", "the program of changed sources")
+
+
+def prove_makes_the_proved_program(program):
+    """`prove` calls `rt ci` once, and keeps nothing if that fails. Then each command runs what it made."""
+    with Clone(program) as clone:
+        prover = PROVER.replace("TOP", shlex.quote(str(clone.top))).replace("PROGRAM", shlex.quote(str(program)))
+        clone.writes(clone.top / "tools" / "rt", prover)
+        (clone.top / "fail").touch()
+        printed, told, status = clone.run("prove")
+        same((printed, status, "a goal is open" in told, clone.kept()), ("", 1, True, []), "a proof that fails")
+        (clone.top / "fail").unlink()
+        printed, told, status = clone.run("prove")
+        last = "daide-gate: the program is proved and built"
+        same((printed, told.splitlines()[-1], status), ("", last, 0), "a proof")
+        same(clone.run("prove"), ("", f"{last}\n", 0), "prove again")
+        same((clone.run("frame", "GOF"), clone.version()), ((GOF, "", 0), "proved at commit unknown"), "a command")
+        same((clone.calls(), clone.kept()), (0, ["daide-gate", "daide-gate.kind"]), "calls of the compiler, and what is kept")
+
+
+def run_without_control_replaces_the_script(program):
+    """A signal ends it at once, as it ends the program."""
+    with Clone(program) as clone:
+        clone.has_proved()
+        settings = pathlib.Path(clone.room.name) / "settings.toml"
+        settings.write_text("listen = '127.0.0.1:0'\nserver = '127.0.0.1:1'\n", encoding="utf-8")
+        with clone.begin("run", settings) as process:
+            same(process.stdout.readline(), "listening\n", "printed by the run")
+            process.send_signal(signal.SIGTERM)
+            process.communicate(timeout=SECONDS)
+        same(process.returncode, -signal.SIGTERM, "the status")
+
+
+def run_that_cannot_begin_has_its_status(program):
+    """The script that stays beside a run has the run's status, also that of a run that can't listen."""
+    with Clone(program) as clone:
+        clone.has_proved()
+        settings = pathlib.Path(clone.room.name) / "settings.toml"
+        settings.write_text("listen = '192.0.2.1:1'\nserver = '127.0.0.1:1'\ncontrol = 'c'\n", encoding="utf-8")
+        same(clone.run("run", settings), ("", "daide-gate: cannot listen\n", 1), "a run that can't listen")
 
 
 def signal_before_a_run_listens_ends_it(program):
@@ -263,5 +329,9 @@ TESTS = [
     stopped_making_leaves_nothing,
     failed_making_leaves_nothing,
     version_says_whether_it_is_proved,
+    version_names_the_commit,
+    prove_makes_the_proved_program,
+    run_without_control_replaces_the_script,
+    run_that_cannot_begin_has_its_status,
     signal_before_a_run_listens_ends_it,
 ]

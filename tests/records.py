@@ -8,8 +8,8 @@ from dataclasses import dataclass
 from datetime import datetime, timezone
 
 from acts import (
-    Act, Appears, Bot, Comes, Empties, Ends, FinishesConnect, Hears, HearsEnd, MeetsNobody, Passes, Pours, Says, Server,
-    Vanishes,
+    Act, Appears, Bot, Comes, Empties, Ends, FillsTheDisk, FinishesConnect, Hears, HearsEnd, Logs, MeetsNobody, Passes,
+    Pours, Says, Server, Vanishes,
 )
 from frames import (
     EM_01, EM_08, EM_09, EM_0C, EM_0E, FM, IM, ITS_ERR, ITS_PRN, OBS, OBS_FM, OBS_GOF, RM, UNCLOSED, UNKNOWN, YES,
@@ -125,6 +125,14 @@ class Full(Recorded):
                 raise Wrong(f"the {side}'s bytes in {name} are not the first {len(seen)} that it sent")
 
 
+class OnADisk(Recorded):
+    """A recorded scene whose files may be refused, which then is an error and no signal."""
+
+    def conditions(self, watcher=()):
+        """Returns the conditions of a run that ignores the signal."""
+        return super().conditions(("sh", "-c", "trap '' XFSZ && exec \"$@\"", "sh", *watcher))
+
+
 class Left(Scene):
     """A scene beside a file that somebody made, which is left as it is."""
 
@@ -147,7 +155,8 @@ class IsWritten(Act):
         if text.endswith("\n") and said_in(text.splitlines()) == self.said:
             return True
         # No stream reports a write to a file.
-        return stage.awaits_moment(time.monotonic() + 0.01)
+        stage.awaits_moment(time.monotonic() + 0.01)
+        return False
 
 
 def report_of(program, file):
@@ -332,6 +341,72 @@ def says_many(count):
     ]
 
 
+CUT = "daide-gate: record of session 1 broke off: it could not be written (file too large)\n"
+
+# The disk is full in the middle of a session, which goes on without its record.
+DISK_IS_FULL = [
+    *joins(),
+    *opens(0),
+    IsWritten(1, (IM, RM)),
+    FillsTheDisk(),
+    Says(Bot(0), OBS),
+    Hears(Server(0), OBS),
+    Logs(CUT),
+    Says(Server(0), YES),
+    Hears(Bot(0), YES),
+    Says(Bot(0), FM),
+    Hears(Server(0), FM),
+    HearsEnd(Server(0)),
+]
+
+# The disk is full before the last turn of a session.
+DISK_IS_FULL_AT_LAST = [
+    *joins(),
+    *opens(0),
+    IsWritten(1, (IM, RM)),
+    FillsTheDisk(),
+    Says(Bot(0), FM),
+    Hears(Server(0), FM),
+    HearsEnd(Server(0)),
+]
+
+IS_FULL = "daide-gate: full: 2 of 2 sessions; further bots wait\n"
+HAS_ROOM = "daide-gate: no longer full\n"
+
+# Both places are taken, one becomes free and is taken again, and both become free.
+BECOMES_FREE = [
+    *joins(),
+    *joins(),
+    *opens(0),
+    *opens(1),
+    Says(Bot(0), FM),
+    Hears(Server(0), FM),
+    HearsEnd(Server(0)),
+    Logs(HAS_ROOM),
+    *joins(),
+    *opens(2),
+    Says(Bot(1), FM),
+    Hears(Server(1), FM),
+    HearsEnd(Server(1)),
+    Logs(HAS_ROOM, 2),
+    Says(Bot(2), FM),
+    Hears(Server(2), FM),
+    HearsEnd(Server(2)),
+]
+
+TELLS_OF_ROOM = f"""\
+daide-gate: session 1 began: bot at 127.0.0.1:{{0}}
+daide-gate: session 2 began: bot at 127.0.0.1:{{1}}
+{IS_FULL}\
+daide-gate: session 1 ended after *.* s: FM of bot; bot 2 relayed 0 prn 0 huh; server 1 relayed 0 prn 0 huh; 0 faults; level 0
+{HAS_ROOM}\
+daide-gate: session 3 began: bot at 127.0.0.1:{{2}}
+{IS_FULL}\
+daide-gate: session 2 ended after *.* s: FM of bot; bot 2 relayed 0 prn 0 huh; server 1 relayed 0 prn 0 huh; 0 faults; level 0
+{HAS_ROOM}\
+daide-gate: session 3 ended after *.* s: FM of bot; bot 2 relayed 0 prn 0 huh; server 1 relayed 0 prn 0 huh; 0 faults; level 0
+"""
+
 # Half a second passes before a bot speaks.
 SPEAKS_LATE = [
     *joins(),
@@ -416,6 +491,12 @@ SCENES = [
         "verbose_run_tells_of_bots_without_a_server", NOBODY_SERVES, "sessions = 2", TELLS_UNREACHED,
         server=silent_door, verbose=True,
     ),
+    Scene(
+        "verbose_run_tells_of_a_place_that_becomes_free", BECOMES_FREE, "max_sessions = 2\nsessions = 3", TELLS_OF_ROOM,
+        verbose=True,
+    ),
+    OnADisk("record_that_a_full_disk_cuts_is_told", DISK_IS_FULL, told=CUT, recorded=1, kept=((IM, RM),)),
+    OnADisk("record_that_is_cut_in_its_last_turn_is_told", DISK_IS_FULL_AT_LAST, told=CUT, recorded=1, kept=((IM, RM),)),
     Scene("record_that_cannot_be_made_is_told", [Vanishes(), *GETS_PRN], told=UNMADE, recorded=0, folder="records"),
     Recorded("long_record_is_whole", says_many(LONG), recorded=1, kept=((IM + OBS * LONG + FM, RM),)),
     Full("full_record_is_told", says_many(TOO_LONG), told=FULL, recorded=1, kept=((IM + OBS * TOO_LONG + FM, RM),)),

@@ -4,6 +4,7 @@ The rows are in files below `rows`. The first lines of each file describe its ro
 docs/FORMATS.md and docs/PROTOCOL.md, never from output of the program.
 """
 
+import os
 import pathlib
 import shlex
 import socket
@@ -17,6 +18,9 @@ ROWS = TOP / "tests" / "rows"
 
 # The time limit of one run, in seconds.
 SECONDS = 30
+
+# A user who is not root.
+NOBODY = {"user": 65534, "group": 65534, "extra_groups": ()}
 
 # Settings with XYZ, a press of a power from level 20 on.
 WITH_WORDS = """\
@@ -81,13 +85,13 @@ class Folder:
     def __exit__(self, *fault):
         self.room.cleanup()
 
-    def run(self, words, given=b"", limit=None):
+    def run(self, words, given=b"", limit=None, **how):
         """Runs with these arguments and this input, and a limit as `ulimit` takes it. Returns both outputs as bytes,
-        and the status."""
+        and the status. Further arguments are those of `subprocess.run`."""
         limited = ["sh", "-c", f'ulimit {limit} && exec "$@"', "sh"] if limit else []
         done = subprocess.run(
             [*limited, str(self.program), *words], input=given, capture_output=True, timeout=SECONDS, check=False,
-            cwd=self.room.name,
+            cwd=self.room.name, **how,
         )
         return done.stdout, done.stderr, done.returncode
 
@@ -173,6 +177,28 @@ def each_key_is_named_with_its_value(program):
 def run_that_cannot_begin_has_status_1(program):
     """Invalid settings, folders of records and addresses each have their text."""
     check_rows(program, "unbegun")
+
+
+def longest_settings_are_read(program):
+    """A file of 65,536 bytes is read; one more is too many."""
+    text = FILES["settings-elsewhere"]
+    with Folder(program, {"fits": text.ljust(65_536, "\n"), "long": text.ljust(65_537, "\n")}) as folder:
+        check_ran(folder.run(["run", "fits"]), ("", "cannot listen", "1"), "settings of 65,536 bytes")
+        wanted = ("", "settings could not be read: long: file too large", "1")
+        for command in ("run", "settings", "status", "stop"):
+            check_ran(folder.run([command, "long"]), wanted, f"{command} with settings of 65,537 bytes")
+
+
+def settings_that_may_not_be_read_are_told(program):
+    """The user may not open the file of settings."""
+    with Folder(program, FILES) as folder:
+        room = pathlib.Path(folder.room.name)
+        room.chmod(0o755)
+        (room / "settings-elsewhere").chmod(0)
+        wanted = ("", "settings could not be read: settings-elsewhere: permission denied", "1")
+        for command in ("run", "settings", "status", "stop"):
+            ran = folder.run([command, "settings-elsewhere"], **(NOBODY if os.geteuid() == 0 else {}))
+            check_ran(ran, wanted, f"{command} with settings of another user")
 
 
 def file_of_the_folders_test_is_left_as_it_is(program):
@@ -354,6 +380,8 @@ TESTS = [
     values_of_settings_are_settings,
     text_that_is_no_document_has_a_line,
     run_that_cannot_begin_has_status_1,
+    longest_settings_are_read,
+    settings_that_may_not_be_read_are_told,
     file_of_the_folders_test_is_left_as_it_is,
     address_that_is_taken_cannot_be_listened_on,
     address_of_no_machine_cannot_be_listened_on,

@@ -169,7 +169,7 @@ class Stage:
         listener.setblocking(False)
         self.run, self.listener = run, listener
         self.bots, self.servers, self.flows, self.ports = [], [], [], []
-        self.hoard, self.flood_began = None, 0.0
+        self.hoard, self.flood_began, self.client = None, 0.0, None
         self.over = time.monotonic() + SECONDS
         self.awaited, self.moment, self.act_began = {}, None, 0.0
         self.longest, self.may_print = 0.0, True
@@ -287,6 +287,8 @@ class Stage:
         """Closes all sockets."""
         for peer in self.bots + self.servers:
             peer.stream.close()
+        if self.client:
+            self.client.close()
         self.listener.close()
 
 
@@ -360,6 +362,8 @@ class Scene:
     # Whether the run logs its beginning, and the beginning and the end of sessions. Whether its first line is taken.
     verbose: bool = False
     begins: bool = True
+    # Whether the lines come in this order.
+    in_order: bool = True
     # The number of records after the run, or none if the run is not recorded; of these the number before the run, which
     # are empty, and the number in the name of the first.
     recorded: int | None = None
@@ -394,7 +398,10 @@ class Scene:
         same(run.status, 0, f"status, told {run.told()!r}")
         same(run.printed, b"listening\n", "printed")
         beginning = BEGINNING.format(run.port, run.address) if self.verbose and self.begins else ""
-        same_but_counts(without_reached(run.told()), beginning + self.told.format(*stage.ports), "told")
+        told, wanted = without_reached(run.told()), beginning + self.told.format(*stage.ports)
+        if not self.in_order:
+            told, wanted = ("".join(sorted(text.splitlines(True))) for text in (told, wanted))
+        same_but_counts(told, wanted, "told")
         same(run.records(), record_names(self.recorded or 0, self.first), "records")
         there = [run.size(name) for name in record_names(self.there, self.first)]
         same(there, [0] * self.there, "records that were there")

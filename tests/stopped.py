@@ -1,6 +1,8 @@
 """Scenes in which the program is stopped for a moment, so that one wait receives all that was sent meanwhile."""
 
-from acts import Bot, Comes, Ends, FinishesConnect, GoesOn, Hears, HearsEnd, Leave, Says, Server, Stops
+from acts import (
+    Bot, Comes, Ends, FinishesConnect, GoesOn, Hears, HearsEnd, Leave, Says, SaysUrgently, Server, Stops,
+)
 from frames import FM, IM, ITS_PRN, OBS, UNCLOSED, YES
 from gateway import joins, opens
 from stage import Scene
@@ -66,6 +68,20 @@ def room_for(count):
     return f"max_sessions = {count}\nsessions = {count}"
 
 
+# The program reads up to an urgent byte, and then what follows it, although the system reports both only once.
+BEHIND_AN_URGENT_BYTE = [
+    *joins(),
+    *opens(0),
+    Stops(),
+    Says(Bot(0), OBS),
+    SaysUrgently(Bot(0)),
+    Says(Bot(0), OBS),
+    GoesOn(),
+    Hears(Server(0), OBS * 2),
+    Says(Bot(0), FM),
+    Hears(Server(0), FM),
+]
+
 # An end that arrives with more bytes than one read takes is received after all of them, although the system reports it
 # only once.
 BOTS_END = end_behind(Bot, Server, OBS, MANY_SHORT)
@@ -75,6 +91,7 @@ SCENES = [
     Scene("seventy_speak_at_once", speak_at_once(SOME), room_for(SOME)),
     Scene("more_than_128_speak_at_once", speak_at_once(MORE), room_for(MORE)),
     Scene("hundred_come_at_once", COME_AT_ONCE, room_for(COMING)),
+    Scene("frame_behind_an_urgent_byte_is_read", BEHIND_AN_URGENT_BYTE),
     Scene("end_of_a_bot_behind_unread_bytes_is_heard", BOTS_END, room_for(len(MANY_SHORT))),
     Scene("end_of_a_server_behind_unread_bytes_is_heard", SERVERS_END, room_for(len(MANY_LONG))),
 ]

@@ -1,39 +1,30 @@
--- The body of an answer as the concatenation of its parts.
-use Rattle.std.proofs.Common.{length-append, Result, Ok, Err, IfOk}
-use Rattle.std.specs.List.{AllZip}
+-- The body of an answer, from its parts.
+use Rattle.std.proofs.Common.{length-append}
 use Rattle.std.proofs.lemmas.List.{length-drop}
-use Rattle.std.proofs.lemmas.List.Elements.{same_from_all_zip}
-use Rattle.daide_explain.proofs.Common.{◌≡◌, ◌≤◌, ◌%◌, ◌*◌, ℕ, take, drop, List, [], ◌++◌, length, arith, ap, ◌∙◌}
-use Rattle.daide_explain.proofs.Common.{append_assoc, append-nil, length-take-le, Relay, Prn, Huh}
+use Rattle.daide_explain.proofs.Common.{◌≡◌, ◌≤◌, ◌%◌, ◌*◌, ℕ, take, drop, List, ◌++◌, length, arith, length-take-le, ◌∙◌}
+use Rattle.daide_explain.proofs.Common.{ap, append_assoc, Verdict, Relay, Prn, Huh}
+use Rattle.daide_reader.specs.Verdict.{IsPlaceIn}
 use Rattle.daide_protocol.specs.Answers.{prn_open, huh_open, err_bytes, close_bytes, answer_body}
 
-copied : (parts copy : List ℕ) → AllZip (λ x y. y ≡ x) parts copy → copy ≡ parts
-copied parts copy each = same_from_all_zip (λ x y. y ≡ x) parts copy each (λ x y e. e)
+pub prn_of_parts : (old body first second last : List ℕ) → first ≡ old ++ prn_open → second ≡ first ++ body →
+    last ≡ second ++ close_bytes → last ≡ old ++ answer_body body Prn
+prn_of_parts old body first second last a b c =
+    c ∙ ap (λ (l : List ℕ). l ++ close_bytes) (b ∙ ap (λ (l : List ℕ). l ++ body) a) ∙ simp append_assoc
 
-pub prn_of_parts : (body answer : List ℕ) → AllZip (λ x y. y ≡ x) (prn_open ++ (body ++ (close_bytes ++ []))) answer →
-    answer ≡ answer_body body Prn
-prn_of_parts body answer each = copied _ _ each
-
-pub huh_of_parts : (body before after answer : List ℕ) (place : ℕ) → before ≡ take (2 * place) body →
-    after ≡ drop (2 * place) body
-    → AllZip (λ x y. y ≡ x) (huh_open ++ (before ++ (err_bytes ++ (after ++ (close_bytes ++ []))))) answer →
-    answer ≡ answer_body body (Huh place)
-huh_of_parts body before after answer place front back each =
-    copied _ _ each ∙ ap (λ (l : List ℕ). huh_open ++ (l ++ (err_bytes ++ (after ++ close_bytes)))) front
-    ∙ ap (λ (l : List ℕ). huh_open ++ (take (2 * place) body ++ (err_bytes ++ (l ++ close_bytes)))) back
+pub huh_of_parts : (old body : List ℕ) (place : ℕ) (before after first second third fourth last : List ℕ) →
+    before ≡ take (2 * place) body → after ≡ drop (2 * place) body → first ≡ old ++ huh_open → second ≡ first ++ before →
+    third ≡ second ++ err_bytes → fourth ≡ third ++ after → last ≡ fourth ++ close_bytes →
+    last ≡ old ++ answer_body body (Huh place)
+huh_of_parts old body place before after first second third fourth last front back a b c d e =
+    e ∙ ap (λ (l : List ℕ). l ++ close_bytes) (d ∙ ap (λ (l : List ℕ). l ++ after)
+    (c ∙ ap (λ (l : List ℕ). l ++ err_bytes) (b ∙ ap (λ (l : List ℕ). l ++ before) a)))
+    ∙ ap (λ (l : List ℕ). ((((old ++ huh_open) ++ l) ++ err_bytes) ++ after) ++ close_bytes) front
+    ∙ ap (λ (l : List ℕ). ((((old ++ huh_open) ++ take (2 * place) body) ++ err_bytes) ++ l) ++ close_bytes) back
     ∙ simp append_assoc
 
-pub relay_of_parts : (body answer : List ℕ) → AllZip (λ x y. y ≡ x) (body ++ []) answer → answer ≡ answer_body body Relay
-relay_of_parts body answer each = copied _ _ each ∙ append-nil body
-
-pub even_prn : (body : List ℕ) → length body % 2 ≡ 0 → length (answer_body body Prn) % 2 ≡ 0
-even_prn body even = simp length-append (omega arith)
-
-pub even_huh : (body : List ℕ) (place : ℕ) → length body % 2 ≡ 0 → 2 * place ≤ length body →
-    length (answer_body body (Huh place)) % 2 ≡ 0
-even_huh body place even within =
+pub even_answer : (body : List ℕ) (verdict : Verdict) → length body % 2 ≡ 0 → IsPlaceIn body verdict →
+    length (answer_body body verdict) % 2 ≡ 0
+even_answer body Relay even within = even
+even_answer body Prn even within = simp length-append (omega arith)
+even_answer body (Huh place) even within =
     simp (length-append, length-drop) (omega (arith, length-take-le (2 * place) body within))
-
-pub if_ok-more : {A E : Type 0} (r : Result A E) (P Q : A → Type 0) → IfOk r P → ((x : A) → P x → Q x) → IfOk r Q
-if_ok-more (Ok x) P Q has more = more x has
-if_ok-more (Err e) P Q has more = tt

@@ -5,7 +5,7 @@ use Rattle.std.proofs.lemmas.List.Elements.{filter-append}
 use Rattle.daide_explain.proofs.Common.{◌≡◌, ℕ, ◌+◌, ◌*◌, ◌%◌, ◌<◌, ◌==◌, ◌||◌, ◌&&◌, not, ◌⊎◌, inl, inr, Bool, true}
 use Rattle.daide_explain.proofs.Common.{false, List, [], ◌∷◌, ◌++◌, length, take, get_or, codes, Option, None, Some}
 use Rattle.daide_explain.proofs.Common.{refl, sym, ◌∙◌, ap, subst, arith, append_assoc, append-nil, eqb-true, decimal}
-use Rattle.daide_explain.proofs.Common.{Class, class_of, bra, ket, tokens_of, Named, open_brackets, Word, names_of}
+use Rattle.daide_explain.proofs.Common.{Class, class_of, bra, ket, tokens_of, open_brackets, Word, names_of}
 use Rattle.daide_explain.proofs.Common.{brackets_in, class_items, end_item, expected_line, items}
 use Rattle.daide_token.specs.Text.{text_with}
 use Rattle.daide_token.specs.Token.{token_bytes}
@@ -29,14 +29,13 @@ item_kind words t class name apart same e = go (t == other_token) refl (e ∙ ap
 one_token : (t : ℕ) → tokens_of (token_bytes t) ≡ t ∷ []
 one_token t = ap (λ (x : ℕ). x ∷ []) (let e : t / 256 * 256 + t % 256 ≡ t = omega arith in e)
 
-pub item_name : (words : List Word) (t : ℕ) (class : Class) (names : List Named) (bytes : List ℕ) → (t ≡ other_token → ⊥) →
-    class ≡ class_of t → None ≡ kind_name class → names ≡ names_of words → bytes ≡ token_bytes t →
-    item words t ≡ text_with names (tokens_of bytes)
+pub item_name : (words : List Word) (t : ℕ) (class : Class) (bytes : List ℕ) → (t ≡ other_token → ⊥) →
+    class ≡ class_of t → None ≡ kind_name class → bytes ≡ token_bytes t →
+    item words t ≡ text_with (names_of words) (tokens_of bytes)
 unfolding item
-item_name words t class names bytes apart same e is_names is_bytes =
+item_name words t class bytes apart same e is_bytes =
     go (t == other_token) refl (e ∙ ap kind_name same)
-    ∙ (ap (λ (l : List Named). text_with l (t ∷ [])) (sym is_names)
-    ∙ ap (text_with names) (sym (ap tokens_of is_bytes ∙ one_token t)))
+    ∙ ap (text_with (names_of words)) (sym (ap tokens_of is_bytes ∙ one_token t))
   where
     go : (b : Bool) → (t == other_token) ≡ b → ◌≡◌ {A = Option (List ℕ)} None (kind_name (class_of t)) →
         (if b then codes "<other>" else unwrap_or (kind_name (class_of t)) (text_with (names_of words) (t ∷ [])))

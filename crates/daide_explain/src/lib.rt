@@ -13,6 +13,7 @@ mod levels;
 mod listed;
 mod rules;
 mod text;
+mod token_text;
 
 pub use answer::answer_of;
 pub use brackets::{Unpaired, find_unpaired};
@@ -21,3 +22,4 @@ pub use levels::lowest_level;
 pub use listed::list_expected;
 pub use rules::Rules;
 pub use text::write_explained;
+pub use token_text::append_tokens;

@@ -1,6 +1,7 @@
 //! The tokens expected after a prefix, one of each class, in printing order.
 
-ghost use Rattle.std.specs.Prelude.{◌≡◌, ◌≤◌, ◌++◌, false, List, ℕ, length, IfOk, OnOk};
+ghost use Rattle.std.specs.Prelude.{◌≡◌, ◌≤◌, ◌++◌, false, List, ℕ, length, IfOk, OnOk, OnErr};
+ghost use Rattle.daide_causes.specs.Causes.{WasRefused};
 ghost use Rattle.daide_token.specs.Token.{tokens_of};
 ghost use Rattle.daide_grammar.specs.Paired.{begins_with_prn};
 ghost use Rattle.daide_grammar.specs.SideMessages.{IsMessageOver};
@@ -12,8 +13,9 @@ ghost use Rattle.daide_explain.specs.Listed.{IsFilteredBy, IsAppendedIf, codes_o
 
 use crate::expected::is_expected;
 use crate::rules::Rules;
+use daide_causes::Growth;
 use daide_token::Token;
-use std::alloc::{AllocError, Allocator};
+use std::alloc::AllocError;
 
 /// A token of each listed class, in printing order: first the kinds, then the tokens that are alone in their class, by
 /// code.
@@ -40,7 +42,7 @@ pub(crate) const UNKNOWN: u16 = 0x5800;
 const UNLISTED: [u16; 2] = [OTHER, UNKNOWN];
 
 /// Appends a token if it is expected after the tokens of a body.
-fn append_if_expected<A: Allocator>(
+fn append_if_expected<A: Growth>(
     rules: &Rules<'_>,
     before: &[u8],
     token: Token,
@@ -49,18 +51,19 @@ fn append_if_expected<A: Allocator>(
     requires high { rules.now.max_depth ≤ greatest_depth }
     requires capped { length before.now ≤ longest_body }
     requires plain { begins_with_prn (tokens_of before.now) ≡ false }
-    ensures { OnOk result (IsAppendedIf (IsExpected
+    ensures appended { OnOk result (IsAppendedIf (IsExpected
         (IsMessageOver (grammar_words (words_of rules.now.words.now)) rules.now.end rules.now.level)
         rules.now.max_depth (tokens_of before.now)) token tokens.old.items tokens.new.items) }
+    ensures refused { OnErr result (WasRefused A.Refuses) }
 {
     if is_expected(rules, before, token) {
-        tokens.push(token)?;
+        A::append(tokens, &[token])?;
     }
     Ok(())
 }
 
 /// Appends those of the codes' tokens that are expected.
-fn append_codes<A: Allocator>(
+fn append_codes<A: Growth>(
     rules: &Rules<'_>,
     before: &[u8],
     codes: &[u16],
@@ -69,11 +72,12 @@ fn append_codes<A: Allocator>(
     requires high { rules.now.max_depth ≤ greatest_depth }
     requires capped { length before.now ≤ longest_body }
     requires plain { begins_with_prn (tokens_of before.now) ≡ false }
-    ensures { OnOk result ((done : List ℕ) →
+    ensures filtered { OnOk result ((done : List ℕ) →
         let expected = IsExpected
         (IsMessageOver (grammar_words (words_of rules.now.words.now)) rules.now.end rules.now.level)
         rules.now.max_depth (tokens_of before.now) in
         IsFilteredBy expected done tokens.old.items → IsFilteredBy expected (done ++ codes.now) tokens.new.items) }
+    ensures refused { OnErr result (WasRefused A.Refuses) }
 {
     for code in codes {
         append_if_expected(rules, before, Token::from_code(*code), tokens)?;
@@ -82,7 +86,7 @@ fn append_codes<A: Allocator>(
 }
 
 /// Appends the operator's words that are expected.
-fn append_words<A: Allocator>(
+fn append_words<A: Growth>(
     rules: &Rules<'_>,
     before: &[u8],
     tokens: &mut Vec<Token, A>,
@@ -90,12 +94,13 @@ fn append_words<A: Allocator>(
     requires high { rules.now.max_depth ≤ greatest_depth }
     requires capped { length before.now ≤ longest_body }
     requires plain { begins_with_prn (tokens_of before.now) ≡ false }
-    ensures { OnOk result ((done : List ℕ) →
+    ensures filtered { OnOk result ((done : List ℕ) →
         let expected = IsExpected
         (IsMessageOver (grammar_words (words_of rules.now.words.now)) rules.now.end rules.now.level)
         rules.now.max_depth (tokens_of before.now) in
         IsFilteredBy expected done tokens.old.items →
         IsFilteredBy expected (done ++ codes_of (names_of (words_of rules.now.words.now))) tokens.new.items) }
+    ensures refused { OnErr result (WasRefused A.Refuses) }
 {
     for named in rules.words.names() {
         append_if_expected(rules, before, named.0, tokens)?;
@@ -105,7 +110,7 @@ fn append_words<A: Allocator>(
 
 /// Returns a token of each class that is expected after the tokens of a body, in order. A token is expected if a
 /// message begins with these tokens and then it, and they open no bracket too many (`IsExpected`).
-pub fn list_expected<A: Allocator>(
+pub fn list_expected<A: Growth>(
     alloc: A,
     rules: &Rules<'_>,
     before: &[u8],
@@ -113,9 +118,10 @@ pub fn list_expected<A: Allocator>(
     requires high { rules.now.max_depth ≤ greatest_depth }
     requires capped { length before.now ≤ longest_body }
     requires plain { begins_with_prn (tokens_of before.now) ≡ false }
-    ensures { IfOk result (λ tokens. IsFilteredBy (IsExpected
+    ensures listed { IfOk result (λ tokens. IsFilteredBy (IsExpected
         (IsMessageOver (grammar_words (words_of rules.now.words.now)) rules.now.end rules.now.level)
         rules.now.max_depth (tokens_of before.now)) (representatives (words_of rules.now.words.now)) tokens.items) }
+    ensures refused { OnErr result (WasRefused A.Refuses) }
 {
     let mut tokens = Vec::new(alloc);
     append_codes(rules, before, &LISTED, &mut tokens)?;

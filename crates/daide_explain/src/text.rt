@@ -1,7 +1,8 @@
 //! The explanation as text.
 
 ghost use Rattle.std.specs.Prelude.{◌≡◌, ◌≤◌, ◌*◌, ◌++◌, List, ℕ, option_map};
-ghost use Rattle.std.specs.Prelude.{IsTrue, ◌↔◌, false, take, length, OnOk};
+ghost use Rattle.std.specs.Prelude.{IsTrue, ◌↔◌, false, take, length, OnOk, OnErr};
+ghost use Rattle.daide_causes.specs.Causes.{WasRefused};
 ghost use Rattle.daide_token.specs.Token.{tokens_of};
 ghost use Rattle.daide_grammar.specs.Depth.{open_brackets};
 ghost use Rattle.daide_grammar.specs.Paired.{begins_with_prn};
@@ -20,14 +21,14 @@ use crate::expected::{is_end_expected, is_relayed};
 use crate::levels::lowest_level;
 use crate::listed::{OTHER, UNKNOWN, list_expected};
 use crate::rules::Rules;
+use crate::token_text::append_tokens;
+use daide_causes::Growth;
 use daide_grammar::{Level, Side2};
 use daide_protocol::{MAX_DEPTH, STACK_ENTRIES};
 use daide_reader::{Reader, Verdict};
-use daide_token::{Class, Token, token_at, write_text_with};
+use daide_token::{Class, Token, token_at};
 use daide_words::{Extended, Words};
-use std::alloc::Allocator;
-use std::io;
-use std::io::Write;
+use std::alloc::AllocError;
 
 /// Returns the name of a kind, a class of many tokens.
 fn kind_name(class: Class) -> Option<&'static str>
@@ -48,44 +49,51 @@ fn kind_name(class: Class) -> Option<&'static str>
 }
 
 /// Writes the item of a token's class: its kind, or the name of its only token.
-fn write_item<A: Allocator>(words: &Words, token: Token, text: &mut Vec<u8, A>) -> io::Result<()>
-    ensures { OnOk result (text.new.items ≡ text.old.items ++ item (words_of words.now) token) }
+fn write_item<A: Growth>(
+    words: &Words,
+    token: Token,
+    text: &mut Vec<u8, A>,
+) -> Result<(), AllocError>
+    ensures text { OnOk result (text.new.items ≡ text.old.items ++ item (words_of words.now) token) }
+    ensures refused { OnErr result (WasRefused A.Refuses) }
 {
     if token.code() == OTHER {
-        return text.write_all(b"<other>");
+        return A::append(text, b"<other>");
     }
     match kind_name(token.class()) {
-        Some(name) => text.write_all(name.as_bytes()),
-        None => write_text_with(words.names(), &token.to_be(), text),
+        Some(name) => A::append(text, name.as_bytes()),
+        None => append_tokens(words, &token.to_be(), text),
     }
 }
 
 /// Writes the items of some tokens' classes, with a space before each.
-fn write_items<A: Allocator>(
+fn write_items<A: Growth>(
     words: &Words,
     tokens: &[Token],
     text: &mut Vec<u8, A>,
-) -> io::Result<()>
-    ensures { OnOk result (text.new.items ≡ text.old.items ++ items (words_of words.now) tokens.now) }
+) -> Result<(), AllocError>
+    ensures text { OnOk result (text.new.items ≡ text.old.items ++ items (words_of words.now) tokens.now) }
+    ensures refused { OnErr result (WasRefused A.Refuses) }
 {
     for token in tokens {
-        text.write_all(b" ")?;
+        A::append(text, b" ")?;
         write_item(words, *token, text)?;
     }
     Ok(())
 }
 
 /// Writes the items of the brackets among some tokens, with a space before each.
-fn write_brackets<A: Allocator>(
+fn write_brackets<A: Growth>(
     words: &Words,
     tokens: &[Token],
     text: &mut Vec<u8, A>,
-) -> io::Result<()>
-    ensures { OnOk result (text.new.items ≡ text.old.items ++ items (words_of words.now) (brackets_in tokens.now)) }
+) -> Result<(), AllocError>
+    ensures text { OnOk result (text.new.items ≡ text.old.items ++ items (words_of words.now) (brackets_in tokens.now)) }
+    ensures refused { OnErr result (WasRefused A.Refuses) }
 {
     for token in tokens {
         if token.is_bra() || token.is_ket() {
-            text.write_all(b" ")?;
+            A::append(text, b" ")?;
             write_item(words, *token, text)?;
         }
     }
@@ -101,28 +109,30 @@ fn has_unknown(tokens: &[Token]) -> bool
 
 /// Writes the items of the expected classes. If a token of an unknown category is expected, writes the brackets and
 /// `<any>`.
-fn write_classes<A: Allocator>(
+fn write_classes<A: Growth>(
     words: &Words,
     tokens: &[Token],
     text: &mut Vec<u8, A>,
-) -> io::Result<()>
-    ensures { OnOk result (text.new.items ≡ text.old.items ++ class_items (words_of words.now) tokens.now) }
+) -> Result<(), AllocError>
+    ensures text { OnOk result (text.new.items ≡ text.old.items ++ class_items (words_of words.now) tokens.now) }
+    ensures refused { OnErr result (WasRefused A.Refuses) }
 {
     if has_unknown(tokens) {
         write_brackets(words, tokens, text)?;
-        return text.write_all(b" <any>");
+        return A::append(text, b" <any>");
     }
     write_items(words, tokens, text)
 }
 
 /// Writes the item of the end, if it is expected, and the line feed.
-fn write_end<A: Allocator>(ends: bool, text: &mut Vec<u8, A>) -> io::Result<()>
-    ensures { OnOk result (text.new.items ≡ text.old.items ++ end_item ends) }
+fn write_end<A: Growth>(ends: bool, text: &mut Vec<u8, A>) -> Result<(), AllocError>
+    ensures text { OnOk result (text.new.items ≡ text.old.items ++ end_item ends) }
+    ensures refused { OnErr result (WasRefused A.Refuses) }
 {
     if ends {
-        return text.write_all(b" <end>\n");
+        return A::append(text, b" <end>\n");
     }
-    text.write_all(b"\n")
+    A::append(text, b"\n")
 }
 
 /// Returns how many brackets the tokens of a body leave open.
@@ -141,40 +151,42 @@ fn open_before(rules: &Rules<'_>, before: &[u8]) -> usize
 }
 
 /// Writes the line of the expected items, or, if nothing is expected, the number of open brackets.
-fn write_line<A: Allocator>(
+fn write_line<A: Growth>(
     rules: &Rules<'_>,
     before: &[u8],
     tokens: &[Token],
     ends: bool,
     text: &mut Vec<u8, A>,
-) -> io::Result<()>
+) -> Result<(), AllocError>
     requires { length before.now ≤ longest_body }
-    ensures { OnOk result (text.new.items
+    ensures text { OnOk result (text.new.items
         ≡ text.old.items ++ expected_line (words_of rules.now.words.now) (tokens_of before.now) tokens.now ends) }
+    ensures refused { OnErr result (WasRefused A.Refuses) }
 {
     if tokens.is_empty() && !ends {
         let open = open_before(rules, before);
-        return writeln!(text, "too deep: {open} brackets are open");
+        return A::append_text(text, format_args_nl!("too deep: {open} brackets are open"));
     }
-    text.write_all(b"expected:")?;
+    A::append(text, b"expected:")?;
     write_classes(rules.words, tokens, text)?;
     write_end(ends, text)
 }
 
 /// Writes the line of what is expected after the tokens of a body.
-fn write_expected<A: Allocator + Copy>(
+fn write_expected<A: Growth + Copy>(
     alloc: A,
     rules: &Rules<'_>,
     before: &[u8],
     text: &mut Vec<u8, A>,
-) -> io::Result<()>
+) -> Result<(), AllocError>
     requires high { rules.now.max_depth ≤ greatest_depth }
     requires capped { length before.now ≤ longest_body }
     requires plain { begins_with_prn (tokens_of before.now) ≡ false }
-    ensures { OnOk result ((line : List ℕ) × IsExpectedLine (words_of rules.now.words.now)
+    ensures text { OnOk result ((line : List ℕ) × IsExpectedLine (words_of rules.now.words.now)
         (IsMessageOver (grammar_words (words_of rules.now.words.now)) rules.now.end rules.now.level)
         rules.now.max_depth (tokens_of before.now) line
         × (text.new.items ≡ text.old.items ++ line)) }
+    ensures refused { OnErr result (WasRefused A.Refuses) }
 {
     let tokens = list_expected(alloc, rules, before)?;
     let ends = is_end_expected(rules, before);
@@ -204,37 +216,40 @@ fn begins_with_prn(body: &[u8]) -> bool
 }
 
 /// Writes the line of an unpaired bracket; nothing if all are paired.
-fn write_bracket<A: Allocator>(unpaired: Unpaired, text: &mut Vec<u8, A>) -> io::Result<()>
-    ensures { OnOk result (text.new.items ≡ text.old.items ++ unpaired_line unpaired) }
+fn write_bracket<A: Growth>(unpaired: Unpaired, text: &mut Vec<u8, A>) -> Result<(), AllocError>
+    ensures text { OnOk result (text.new.items ≡ text.old.items ++ unpaired_line unpaired) }
+    ensures refused { OnErr result (WasRefused A.Refuses) }
 {
     match unpaired {
-        Unpaired::Ket(place) => writeln!(text, "unpaired: ) at {place}"),
-        Unpaired::Bra(place) => writeln!(text, "unpaired: ( at {place}"),
+        Unpaired::Ket(place) => A::append_text(text, format_args_nl!("unpaired: ) at {place}")),
+        Unpaired::Bra(place) => A::append_text(text, format_args_nl!("unpaired: ( at {place}")),
         Unpaired::Nothing => Ok(()),
     }
 }
 
 /// Writes which bracket of a message is unpaired.
-fn write_unpaired<A: Allocator>(body: &[u8], text: &mut Vec<u8, A>) -> io::Result<()>
+fn write_unpaired<A: Growth>(body: &[u8], text: &mut Vec<u8, A>) -> Result<(), AllocError>
     requires { length body.now ≤ longest_body }
-    ensures { OnOk result ((line : List ℕ) × IsUnpairedExplained (tokens_of body.now) line
+    ensures text { OnOk result ((line : List ℕ) × IsUnpairedExplained (tokens_of body.now) line
         × (text.new.items ≡ text.old.items ++ line)) }
+    ensures refused { OnErr result (WasRefused A.Refuses) }
 {
     if begins_with_prn(body) {
-        return text.write_all(b"unpaired: PRN\n");
+        return A::append(text, b"unpaired: PRN\n");
     }
     write_bracket(find_unpaired(body), text)
 }
 
 /// Writes the level from which a message is relayed, if there is one.
-fn write_level<A: Allocator>(least: Option<Level>, text: &mut Vec<u8, A>) -> io::Result<()>
-    ensures { OnOk result (text.new.items ≡ text.old.items ++ level_line least) }
+fn write_level<A: Growth>(least: Option<Level>, text: &mut Vec<u8, A>) -> Result<(), AllocError>
+    ensures text { OnOk result (text.new.items ≡ text.old.items ++ level_line least) }
+    ensures refused { OnErr result (WasRefused A.Refuses) }
 {
     let Some(higher) = least else {
         return Ok(());
     };
     let number = higher.number();
-    writeln!(text, "relayed from level {number}")
+    A::append_text(text, format_args_nl!("relayed from level {number}"))
 }
 
 /// Returns the other side.
@@ -249,29 +264,31 @@ fn other_side(end: Side2) -> Side2
 
 /// Writes that a message is relayed as the other side's, if it is.
 #[tactic(auto, unfolding(crate::specs::Explained::side_line))]
-fn write_side<A: Allocator>(end: Side2, other: bool, text: &mut Vec<u8, A>) -> io::Result<()>
-    ensures { OnOk result (text.new.items ≡ text.old.items ++ side_line end other) }
+fn write_side<A: Growth>(end: Side2, other: bool, text: &mut Vec<u8, A>) -> Result<(), AllocError>
+    ensures text { OnOk result (text.new.items ≡ text.old.items ++ side_line end other) }
+    ensures refused { OnErr result (WasRefused A.Refuses) }
 {
     if !other {
         return Ok(());
     }
     match end {
-        Side2::Client => text.write_all(b"relayed with --side server\n"),
-        Side2::ServerEnd => text.write_all(b"relayed with --side bot\n"),
+        Side2::Client => A::append(text, b"relayed with --side server\n"),
+        Side2::ServerEnd => A::append(text, b"relayed with --side bot\n"),
     }
 }
 
 /// Writes the level from which a message is relayed, and whether it is relayed as the other side's.
-fn write_elsewhere<A: Allocator>(
+fn write_elsewhere<A: Growth>(
     rules: &Rules<'_>,
     body: &[u8],
     text: &mut Vec<u8, A>,
-) -> io::Result<()>
+) -> Result<(), AllocError>
     requires high { rules.now.max_depth ≤ greatest_depth }
     requires capped { length body.now ≤ longest_body }
-    ensures { OnOk result ((lines : List ℕ) × AreElsewhere (words_of rules.now.words.now) rules.now.end
+    ensures text { OnOk result ((lines : List ℕ) × AreElsewhere (words_of rules.now.words.now) rules.now.end
         rules.now.level rules.now.max_depth (tokens_of body.now) lines
         × (text.new.items ≡ text.old.items ++ lines)) }
+    ensures refused { OnErr result (WasRefused A.Refuses) }
 {
     let other = Rules {
         words: rules.words,
@@ -286,49 +303,51 @@ fn write_elsewhere<A: Allocator>(
 }
 
 /// Writes the line for the error place of a message.
-fn write_cause<A: Allocator + Copy>(
+fn write_cause<A: Growth + Copy>(
     alloc: A,
     rules: &Rules<'_>,
     place: usize,
     body: &[u8],
     text: &mut Vec<u8, A>,
-) -> io::Result<()>
+) -> Result<(), AllocError>
     requires high { rules.now.max_depth ≤ greatest_depth }
     requires capped { length body.now ≤ longest_body }
     requires within { 2 * place ≤ length body.now }
     requires plain { begins_with_prn (tokens_of (take (2 * place) body.now)) ≡ false }
-    ensures { OnOk result ((line : List ℕ) × IsPlaceCause (words_of rules.now.words.now) rules.now.end rules.now.level
+    ensures text { OnOk result ((line : List ℕ) × IsPlaceCause (words_of rules.now.words.now) rules.now.end rules.now.level
         rules.now.max_depth (tokens_of body.now) place line
         × (text.new.items ≡ text.old.items ++ line)) }
+    ensures refused { OnErr result (WasRefused A.Refuses) }
 {
     if is_too_deep(rules, body, place) {
-        return writeln!(text, "too deep: ( at {place}");
+        return A::append_text(text, format_args_nl!("too deep: ( at {place}"));
     }
     write_expected(alloc, rules, &body[..2 * place], text)
 }
 
 /// Writes what is wrong at the error place of a message, and the other level or side with which it is relayed.
-fn write_place<A: Allocator + Copy>(
+fn write_place<A: Growth + Copy>(
     alloc: A,
     rules: &Rules<'_>,
     place: usize,
     body: &[u8],
     text: &mut Vec<u8, A>,
-) -> io::Result<()>
+) -> Result<(), AllocError>
     requires high { rules.now.max_depth ≤ greatest_depth }
     requires capped { length body.now ≤ longest_body }
     requires within { 2 * place ≤ length body.now }
     requires plain { begins_with_prn (tokens_of (take (2 * place) body.now)) ≡ false }
-    ensures { OnOk result ((lines : List ℕ) × IsPlaceExplained (words_of rules.now.words.now) rules.now.end
+    ensures text { OnOk result ((lines : List ℕ) × IsPlaceExplained (words_of rules.now.words.now) rules.now.end
         rules.now.level rules.now.max_depth (tokens_of body.now) place lines
         × (text.new.items ≡ text.old.items ++ lines)) }
+    ensures refused { OnErr result (WasRefused A.Refuses) }
 {
     write_cause(alloc, rules, place, body, text)?;
     write_elsewhere(rules, body, text)
 }
 
-/// Writes the lines that explain the verdict on the message of a body; none if it is relayed. A failed write or a
-/// refused growth of `text` is the error.
+/// Appends the lines that explain the verdict on the message of a body; none if it is relayed. The only error is that
+/// the allocator refused memory (`refused`).
 ///
 /// `expected` lists what may come at an error place. `relayed from level N` names the least higher level whose grammar
 /// relays the message, and is missing if there is none. `relayed with --side SIDE` is written if and only if the other
@@ -338,20 +357,21 @@ fn write_place<A: Allocator + Copy>(
 /// Not said: how long it takes. It reads a message up to its error place once for each class of tokens, and the whole
 /// message once for each level. No session does that: no crate of a session or of the loop of a run uses
 /// `daide_explain`.
-pub fn write_explained<A: Allocator + Copy>(
+pub fn write_explained<A: Growth + Copy>(
     alloc: A,
     rules: &Rules<'_>,
     verdict: Verdict,
     body: &[u8],
     text: &mut Vec<u8, A>,
-) -> io::Result<()>
+) -> Result<(), AllocError>
     requires high { rules.now.max_depth ≤ greatest_depth }
     requires capped { length body.now ≤ longest_body }
     requires verdict { HasVerdict (IsMessageOver (grammar_words (words_of rules.now.words.now)) rules.now.end
         rules.now.level) rules.now.max_depth (tokens_of body.now) verdict }
-    ensures { OnOk result ((lines : List ℕ) × IsExplained (words_of rules.now.words.now) rules.now.end
+    ensures text { OnOk result ((lines : List ℕ) × IsExplained (words_of rules.now.words.now) rules.now.end
         rules.now.level rules.now.max_depth (tokens_of body.now) verdict lines
         × (text.new.items ≡ text.old.items ++ lines)) }
+    ensures refused { OnErr result (WasRefused A.Refuses) }
 {
     match verdict {
         Verdict::Relay => Ok(()),

@@ -3,6 +3,7 @@ use Rattle.std.specs.Prelude.{◌≡◌, ◌⊎◌, ⊤, ℕ, ◌+◌, ◌-◌, 
 use Rattle.std.specs.Prelude.{Option, Some, None}
 use Rattle.std.specs.Io.KnownBytes.{Appends, Keeps}
 use Rattle.jiff_core.specs.declared.civil.datetime.DateTime.{DateTime}
+pub use Rattle.daide_causes.specs.Causes.{HasFailed}
 use Rattle.daide_io.specs.declared.ports.ClockEvent.TheVariants.{NoEvent, ImTimeIsOver, StopIsRequested}
 use Rattle.daide_io.specs.Ports.{PortCall, TurnBegins, Clock, Pulled, Offered}
 use Rattle.daide_io.specs.declared.ports.Pull.TheVariants as pulls
@@ -33,10 +34,6 @@ pub record Written : Type 0 where
   pub unwritten : List ℕ
   pub lines : ℕ
   pub ending : RecordEnd
-
--- a write of a writer returned an error; code over any writer does not know what `fails` is
-abbrev pub HasFailed : {W : Type 0} → (W → W → Type 0) → Type 0
-HasFailed {W} fails = (old new : W) × fails old new
 
 -- A whole record gets a line. If it has the greatest number of lines, it keeps its text instead. After a failed write
 -- nothing is stated about its text.

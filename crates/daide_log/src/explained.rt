@@ -144,7 +144,8 @@ fn write_refused<B: Allocator + Copy>(
     write_tokens(rules.words, body, text)?;
     write_level(rules.level, capped, text)?;
     write_tokens(rules.words, answer.as_slice(), text)?;
-    write_explained(alloc, rules, verdict, body, text)
+    write_explained(alloc, rules, verdict, body, text)?;
+    Ok(())
 }
 
 /// Writes the lines that explain a message.

@@ -9,7 +9,7 @@ ghost use Rattle.daide_log.specs.Progress.{HasFault, IsInTime};
 ghost use Rattle.daide_log.specs.RecordLaw.{RecordsAreReported, PortsAreRecorded};
 ghost use Rattle.daide_log.specs.Recording.{HasFailed};
 
-use crate::sink::Sink;
+use daide_causes::Sink;
 use daide_io::ports::Ports;
 
 /// The report of a match says of each session what the session's own log reports, without the session's number. The own

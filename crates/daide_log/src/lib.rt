@@ -25,12 +25,12 @@ mod record_text;
 mod recording;
 mod report;
 mod report_builder;
-mod sink;
 mod style;
 mod utc;
 
 pub use check::{check_log, check_stream};
 pub use comment::Comment;
+pub use daide_causes::Sink;
 pub use daide_log_lines::LogFault;
 pub use daide_log_lines::reader::LogReader;
 pub use explained::{Explained, explain_log, explain_stream};
@@ -41,4 +41,3 @@ pub use observer::{Observer, check_observed, explain_observed};
 pub use record::{Record, RecordEnd, RecordedEvent};
 pub use recording::{Activity, Recording};
 pub use report::ReportKey;
-pub use sink::Sink;

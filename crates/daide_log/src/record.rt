@@ -13,7 +13,7 @@ ghost use Rattle.daide_log.specs.Recording.{RecordsEvent, GetsText, KeepsText, H
 
 use crate::comment::{Comment, put_comment};
 use crate::record_text::{put_event, put_head};
-use crate::sink::Sink;
+use daide_causes::Sink;
 use daide_frame::Side;
 pub use daide_log_lines::lines::MOST_LINES;
 use daide_log_lines::page::{PAGE, Page};

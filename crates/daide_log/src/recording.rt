@@ -8,7 +8,7 @@ ghost use Rattle.daide_log.specs.Recording.{due_time as time_due};
 use crate::comment::Comment;
 use crate::moment::Moment;
 use crate::record::{Record, RecordEnd, RecordedEvent};
-use crate::sink::Sink;
+use daide_causes::Sink;
 use daide_frame::Side;
 use daide_io::ports::{ClockEvent, Ports, Pull, Put};
 use daide_io::system::System;

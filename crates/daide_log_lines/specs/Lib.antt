@@ -2,7 +2,9 @@ pub mod LogLine
 pub mod Digits
 pub mod MatchLine
 pub mod WordLine
+pub mod Forms
 pub mod Lines
+pub mod Cause
 pub mod Input
 pub mod Reader
 pub mod Output

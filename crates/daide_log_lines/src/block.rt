@@ -1,6 +1,7 @@
 //! The read buffer of a log.
 
-ghost use Rattle.std.specs.Prelude.{◌≡◌, ◌≤◌, [], length, drop, Ok};
+ghost use Rattle.std.specs.Prelude.{◌≡◌, ◌≤◌, [], length, drop, IfErr};
+ghost use Rattle.daide_causes.specs.Causes.{HasFailed};
 ghost use Rattle.daide_log_lines.specs.Lines.{ReadsBlock, block_size};
 
 use crate::fault::LogFault;
@@ -68,7 +69,8 @@ impl Block {
     ) -> Result<bool, LogFault>
         requires looked_at { self.old ≡ [] }
         requires handed_over { output.now.page.items ≡ [] }
-        ensures { ReadsBlock (W.contents output.now.writer.now) (R.reader_view reader.old) (R.reader_view reader.new) self.new result }
+        ensures read { ReadsBlock (W.contents output.now.writer.now) (R.reader_view reader.old) (R.reader_view reader.new) self.new result }
+        ensures failed { IfErr result (λ fault. (fault ≡ LogFault.Read) × HasFailed R.Fails) }
     {
         self.from = 0;
         self.to = 0;

@@ -9,6 +9,7 @@ mod digits;
 pub mod event_line;
 pub mod fault;
 pub mod input;
+pub mod laws;
 pub mod lines;
 pub mod match_line;
 pub mod output;

@@ -3,6 +3,7 @@
 ghost use Rattle.std.specs.Prelude.{◌≡◌, ◌≢◌, ◌≤◌, [], OnOk, IfErr, IfOk, IfSome};
 ghost use Rattle.std.specs.Io.KnownBytes.{Keeps};
 ghost use Rattle.daide_log_lines.specs.LogLine.{most_lines, without_cr as left_of_cr};
+ghost use Rattle.daide_log_lines.specs.Cause.{HasCause};
 ghost use Rattle.daide_log_lines.specs.Lines.{IsFound, IsHeldLine, IsLineEnd, Scans, HasMore, ReadsOn};
 ghost use Rattle.daide_log_lines.specs.Input.{IsCopied, IsSameReader, LiesIn, line_in, rest_after, rest_in};
 ghost use Rattle.daide_log_lines.specs.Output.{IsSameWriter, all_of};
@@ -13,8 +14,8 @@ use crate::input::Input;
 use crate::output::Output;
 use crate::reader::LogReader;
 use crate::text::{TOO_LONG, Text};
+use daide_causes::Sink;
 use memchr::memchr;
-use std::io::Write;
 
 /// The most lines of a log.
 pub const MOST_LINES: u32 = 1_000_000;
@@ -96,7 +97,7 @@ fn drop_cr(text: &mut Text)
 
 /// Writes the page of the report, then refills the empty block. Returns whether any byte was read. Fails with `Write`,
 /// then with `Read`.
-fn read_on<R: LogReader, W: Write>(
+fn read_on<R: LogReader, W: Sink>(
     block: &mut Block,
     reader: &mut R,
     output: &mut Output<'_, W>,
@@ -106,6 +107,7 @@ fn read_on<R: LogReader, W: Write>(
     ensures kept { OnOk result (Keeps (all_of W.contents output.old) (all_of W.contents output.new)) }
     ensures kept_at_fault { IfErr result (λ fault. fault ≢ LogFault.Write →
         Keeps (all_of W.contents output.old) (all_of W.contents output.new)) }
+    ensures cause { IfErr result (HasCause R.Fails W.Fails ⊥) }
     ensures same_writer { IsSameWriter output.old output.new }
 {
     match output.hand_over() {
@@ -115,7 +117,7 @@ fn read_on<R: LogReader, W: Write>(
 }
 
 /// Returns whether the log has another byte. If the block is empty, writes the page and refills the block.
-fn has_more<R: LogReader, W: Write>(
+fn has_more<R: LogReader, W: Sink>(
     block: &mut Block,
     reader: &mut R,
     output: &mut Output<'_, W>,
@@ -125,6 +127,7 @@ fn has_more<R: LogReader, W: Write>(
     ensures kept { OnOk result (Keeps (all_of W.contents output.old) (all_of W.contents output.new)) }
     ensures kept_at_fault { IfErr result (λ fault. fault ≢ LogFault.Write →
         Keeps (all_of W.contents output.old) (all_of W.contents output.new)) }
+    ensures cause { IfErr result (HasCause R.Fails W.Fails ⊥) }
     ensures same_writer { IsSameWriter output.old output.new }
 {
     if !block.as_slice().is_empty() {
@@ -139,7 +142,7 @@ fn has_more<R: LogReader, W: Write>(
 /// Fails with `TooManyLines` at the first byte of a line beyond the limit, and with `LineTooLong` at the byte that
 /// makes a line too long. Nothing is read after either. Fails with `Write` if the page can't be written, and with
 /// `Read` if a read fails.
-pub fn next_line<R: LogReader, W: Write>(
+pub fn next_line<R: LogReader, W: Sink>(
     input: &mut Input<'_, R>,
     count: u32,
     output: &mut Output<'_, W>,
@@ -151,6 +154,7 @@ pub fn next_line<R: LogReader, W: Write>(
     ensures kept { OnOk result (Keeps (all_of W.contents output.old) (all_of W.contents output.new)) }
     ensures kept_at_fault { IfErr result (λ fault. fault ≢ LogFault.Write →
         Keeps (all_of W.contents output.old) (all_of W.contents output.new)) }
+    ensures cause { IfErr result (HasCause R.Fails W.Fails ⊥) }
     ensures same_reader { IsSameReader input.old input.new }
     ensures same_writer { IsSameWriter output.old output.new }
 {
@@ -182,7 +186,7 @@ pub fn next_line<R: LogReader, W: Write>(
 
 /// Finds the next line of a log, after `count` lines: in place if the whole line is in the block, else by `next_line`.
 #[inline(always)]
-pub fn find_line<R: LogReader, W: Write>(
+pub fn find_line<R: LogReader, W: Sink>(
     input: &mut Input<'_, R>,
     count: u32,
     output: &mut Output<'_, W>,
@@ -195,6 +199,7 @@ pub fn find_line<R: LogReader, W: Write>(
     ensures kept { OnOk result (Keeps (all_of W.contents output.old) (all_of W.contents output.new)) }
     ensures kept_at_fault { IfErr result (λ fault. fault ≢ LogFault.Write →
         Keeps (all_of W.contents output.old) (all_of W.contents output.new)) }
+    ensures cause { IfErr result (HasCause R.Fails W.Fails ⊥) }
     ensures same_reader { IsSameReader input.old input.new }
     ensures same_writer { IsSameWriter output.old output.new }
 {

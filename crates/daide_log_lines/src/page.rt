@@ -1,14 +1,14 @@
 //! The output buffer of a report, which is written in blocks.
 
-ghost use Rattle.std.specs.Prelude.{◌≡◌, ◌+◌, ◌*◌, ◌<◌, ◌≤◌, [], ◌∷◌, ◌++◌, length, OnOk};
+ghost use Rattle.std.specs.Prelude.{◌≡◌, ◌+◌, ◌*◌, ◌<◌, ◌≤◌, [], ◌∷◌, ◌++◌, length, OnOk, OnErr};
 ghost use Rattle.std.specs.Io.KnownBytes.{Keeps, append_known};
 ghost use Rattle.daide_token.specs.TextSteps.{place_past, some_text};
 ghost use Rattle.daide_token.specs.Token.{tokens_of};
 ghost use Rattle.daide_log_lines.specs.Output.{page_size};
 
+use daide_causes::Sink;
 use daide_token::{Printed, PrinterState, Token, put_tokens};
 use std::io;
-use std::io::Write;
 use std::marker::Model;
 
 /// The capacity of a page, in bytes.
@@ -113,12 +113,13 @@ impl Page {
 /// Writes a page to the writer, and empties it.
 #[cold]
 #[inline(never)]
-pub fn hand_over<W: Write>(page: &mut Page, writer: &mut W) -> io::Result<()>
+pub fn hand_over<W: Sink>(page: &mut Page, writer: &mut W) -> io::Result<()>
     ensures emptied { OnOk result (page.new.items ≡ []) }
     ensures written { OnOk result (Keeps (append_known (W.contents writer.old) page.old.items)
         (append_known (W.contents writer.new) page.new.items)) }
+    ensures failed { OnErr result (W.Fails writer.old writer.new) }
 {
-    writer.write_all(page.as_slice())?;
+    writer.write_whole(page.as_slice())?;
     page.clear();
     Ok(())
 }

@@ -1,11 +1,10 @@
 -- The keys of a document, with its limits in the two parts in which the code reads them.
-use Rattle.std.proofs.Common.{◌≢◌}
 use Rattle.std.specs.Result.{IfErr, IsErrAnd}
-use Rattle.daide_settings.proofs.Common.{◌≡◌, true, Result, Ok, Err, refl, Members, get_member, Listen, Server, Words}
+use Rattle.daide_settings.proofs.Common.{◌≡◌, ℕ, List, true, Result, Ok, Err, refl, Members, get_member, Listen, Server, Words}
 use Rattle.daide_settings.proofs.Common.{StallSeconds, Endless, Allow, MaxPerAddress, Control, SettingsError, Given}
 use Rattle.daide_settings.proofs.Common.{key_text, address_of, read_number, read_flag, read_text, then_with}
 use Rattle.daide_settings.proofs.Common.{has_only_known, judged_members, keys_judged, words_judged}
-use Rattle.daide_settings.specs.declared.settings.SettingsError.TheVariants.{Memory}
+use Rattle.daide_settings.specs.Causes.{IsFaultBy}
 use Rattle.daide_settings.specs.LimitSettings.{config_judged, run_limits_judged}
 use Rattle.daide_settings.specs.Ranges.{allow_judged}
 
@@ -59,8 +58,8 @@ known_judged members known = rw known (in_parts members)
 
 -- the fault of a key is returned
 pub fault_of_key :
-    {A : Type 0} (members : Members) (result : Result A SettingsError) (fault : SettingsError) →
+    {A : Type 0} (Refuses : List ℕ → Type 0) (members : Members) (result : Result A SettingsError) (fault : SettingsError) →
     IsErrAnd result (λ returned. returned ≡ fault) → judged_members members ≡ Err fault →
-    IfErr result (λ returned. returned ≢ Memory → judged_members members ≡ Err returned)
-fault_of_key _ (Ok _) _ _ _ = tt
-fault_of_key _ (Err _) _ same judged = λ _. rw same judged
+    IfErr result (IsFaultBy Refuses (judged_members members))
+fault_of_key _ _ (Ok _) _ _ _ = tt
+fault_of_key _ _ (Err _) _ same judged = rw judged same

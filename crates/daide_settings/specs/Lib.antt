@@ -4,6 +4,7 @@ pub mod Settings
 pub mod Given
 pub mod BotsInAll
 pub mod Judged
+pub mod Causes
 pub mod Report
 pub mod LimitSettings
 pub mod Addresses

@@ -7,5 +7,5 @@ pub mod settings;
 
 pub use settings::{
     Address, AddressRange, ControlPath, Host, JudgeFault, Key, Settings, SettingsError,
-    judge_settings, may_come, read_settings,
+    SettingsMemory, judge_settings, may_come, read_settings,
 };

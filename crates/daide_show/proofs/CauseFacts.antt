@@ -1,5 +1,5 @@
 -- The values that are right for each field, and the body up to a fault, worked out from docs/PROTOCOL.md.
-use Rattle.daide_show.proofs.Common.{◌≡◌, true, false, [], ◌∷◌, ◌++◌, codes, map, replicate, refl, range_with_len, Im}
+use Rattle.daide_show.proofs.Common.{◌≡◌, true, false, [], ◌∷◌, ◌++◌, codes, map, replicate, refl, range_with_len, Im, Some}
 use Rattle.daide_show.proofs.Common.{Em, longest_body}
 use Rattle.daide_token.specs.Class.{is_known_category}
 use Rattle.daide_frame.specs.declared.code.Code.TheVariants.{WrongEndian, WrongMagic, WrongVersion, UnknownMessage}
@@ -7,6 +7,7 @@ use Rattle.daide_frame.specs.declared.code.Code.TheVariants.{WrongLength, Invali
 use Rattle.daide_frame.specs.Frames.{is_alien}
 use Rattle.daide_frame.specs.Head.{has_right_length}
 use Rattle.daide_io.specs.declared.fault_field.FaultField.TheVariants.{Kind, Length, Version, MagicNumber, Token}
+use Rattle.daide_io.specs.FaultField.{fault_field}
 use Rattle.daide_show.specs.Cause.{expected_value, faulty_body}
 
 -- a length by the type of the header, unless it is above the cap
@@ -34,8 +35,14 @@ categories : map is_known_category (range_with_len 0 256)
     ≡ replicate 76 true ++ replicate 4 false ++ replicate 8 true ++ replicate 168 false
 categories = refl
 
--- up to the first of two invalid tokens; nothing for a fault of the header
+-- up to the first of two invalid tokens, also if it is the first token; nothing for a fault of the header
 bodies : (faulty_body InvalidToken (0x48 ∷ 3 ∷ 0x60 ∷ 0 ∷ 0x61 ∷ 0 ∷ []) ≡ 0x48 ∷ 3 ∷ 0x60 ∷ 0 ∷ [])
+    × (faulty_body InvalidToken (0x58 ∷ 0 ∷ 0x61 ∷ 0 ∷ []) ≡ 0x58 ∷ 0 ∷ [])
     × (faulty_body WrongLength (0x60 ∷ 0 ∷ []) ≡ [])
 unfolding is_alien
-bodies = (refl, refl)
+bodies = (refl, refl, refl)
+
+-- an invalid token is shown by its own bytes, at its own place, also if it is the first token
+token_fields : (fault_field InvalidToken false (2 ∷ 0 ∷ 0 ∷ 4 ∷ []) (0x58 ∷ 0 ∷ []) ≡ Some (Token 0x5800 4))
+    × (fault_field InvalidToken false (2 ∷ 0 ∷ 0 ∷ 4 ∷ []) (0x48 ∷ 3 ∷ 0x60 ∷ 1 ∷ []) ≡ Some (Token 0x6001 6))
+token_fields = (refl, refl)

@@ -7,9 +7,10 @@ pub mod OneWay
 pub mod OnlyAdded
 pub mod OddGroups
 pub mod NoteLemmas
-pub mod AsBefore
+pub mod Separators
 pub mod FaultLines
 mod InputFacts
 mod CauseFacts
+mod FaultFacts
 mod NoteFacts
 mod FrameFacts

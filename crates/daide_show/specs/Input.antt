@@ -19,10 +19,6 @@ limit = 200000
 abbrev pub is_blank : ℕ → Bool
 is_blank b = b == 32 || b == 9 || b == 13 || b == 10
 
--- a digit or a blank
-abbrev pub is_digit_or_blank : ℕ → Bool
-is_digit_or_blank b = is_hex_digit b || is_blank b
-
 -- ---- digits: separators and prefixes are dropped
 
 -- a blank, a comma or a colon
@@ -61,6 +57,10 @@ opens_escape b rest = b == 92 && digits_after_x rest == 2
 -- `'` and `"`
 abbrev pub is_quote : ℕ → Bool
 is_quote b = b == 39 || b == 34
+
+-- a byte that is in no prefix and in no literal of its own: not an `x`, a backslash or a quote
+abbrev pub is_ordinary : ℕ → Bool
+is_ordinary b = not (is_x b || (b == 92 || is_quote b))
 
 -- the first of some bytes is such a byte
 abbrev pub first_byte_passes : (ℕ → Bool) → List ℕ → Bool

@@ -212,6 +212,15 @@ IsFaultAt asked input NotOneFrame = IsShownAs asked input (Err NotOneFrame)
 IsFaultAt asked input Memory = ⊤
 IsFaultAt asked input Write = (shown : Shown) × IsShownAs asked input (Ok shown)
 
+-- what happened outside, if a fault says so: a failed read, a refused allocation, a failed write
+abbrev pub IsShowCause : Type 0 → Type 0 → Type 0 → ShowFault → Type 0
+IsShowCause read refused write Read = read
+IsShowCause read refused write TooLong = ⊤
+IsShowCause read refused write NotHex = ⊤
+IsShowCause read refused write NotOneFrame = ⊤
+IsShowCause read refused write Memory = refused
+IsShowCause read refused write Write = write
+
 -- An explanation only adds lines after the text, and none if the frame is relayed. For an input with a fault it changes
 -- nothing.
 abbrev pub OnlyAdds : Result Shown ShowFault → Result Shown ShowFault → Type 0

@@ -11,19 +11,18 @@ mod text;
 
 ghost use Rattle.std.specs.Prelude.{◌≢◌, ◌≤◌, ◌+◌, ℕ, List, length, IfOk, IfErr, IfSome, Ok, Err};
 ghost use Rattle.std.specs.Io.KnownBytes.{Consumes, Keeps};
+ghost use Rattle.daide_causes.specs.Causes.{HasFailed, WasRefused};
 ghost use Rattle.daide_show.specs.Input.{limit};
-ghost use Rattle.daide_show.specs.Shown.{request_of, plain_request, AreShownAs, IsShownAs, Shows, IsFaultAt};
+ghost use Rattle.daide_show.specs.Shown.{request_of, plain_request, AreShownAs, IsShownAs, Shows, IsFaultAt, IsShowCause};
 
+use daide_causes::{Growth, Sink, Source};
 use daide_frame::{Cutter, Side};
 use daide_grammar::Level;
 use daide_protocol::MAX_BODY;
 use daide_words::Words;
-use hex::FromHexError;
 pub use input::read_input;
-use input::{LIMIT, digits_of};
+use input::{LIMIT, decode, digits_of};
 use one_frame::{ParsedInput, find_frame};
-use std::alloc::Allocator;
-use std::io::{Read, Write};
 use text::{write_bytes_fault, write_frame};
 use thiserror::Error;
 
@@ -65,7 +64,7 @@ pub struct Request<'a> {
 }
 
 /// Returns the text for some bytes, and whether they would be relayed.
-fn show_bytes<A: Allocator + Copy>(
+fn show_bytes<A: Growth + Copy>(
     alloc: A,
     request: &Request<'_>,
     bytes: &[u8],
@@ -74,6 +73,7 @@ fn show_bytes<A: Allocator + Copy>(
         (Ok (record { text = answer.0.items; relayed = answer.1 }))) }
     ensures refused { IfErr result (λ fault. fault ≢ ShowFault.Memory
         → AreShownAs (request_of request.now) bytes.now (Err fault)) }
+    ensures caused { IfErr result (IsShowCause ⊥ (WasRefused A.Refuses) ⊥) }
 {
     let Ok(mut cutter) = Cutter::new(alloc, MAX_BODY) else {
         return Err(ShowFault::Memory);
@@ -93,7 +93,7 @@ fn show_bytes<A: Allocator + Copy>(
 }
 
 /// Returns the text for an input, and whether its frame would be relayed.
-fn text_of_input<A: Allocator + Copy>(
+fn text_of_input<A: Growth + Copy>(
     alloc: A,
     request: &Request<'_>,
     input: &[u8],
@@ -102,6 +102,7 @@ fn text_of_input<A: Allocator + Copy>(
         (Ok (record { text = answer.0.items; relayed = answer.1 }))) }
     ensures refused { IfErr result (λ fault. fault ≢ ShowFault.Memory
         → IsShownAs (request_of request.now) input.now (Err fault)) }
+    ensures caused { IfErr result (IsShowCause ⊥ (WasRefused A.Refuses) ⊥) }
 {
     if input.len() > LIMIT {
         return Err(ShowFault::TooLong);
@@ -109,15 +110,14 @@ fn text_of_input<A: Allocator + Copy>(
     let Ok(digits) = digits_of(alloc, input) else {
         return Err(ShowFault::Memory);
     };
-    match hex::decode(alloc, digits.as_slice()) {
+    match decode(alloc, digits.as_slice()) {
         Ok(bytes) => show_bytes(alloc, request, bytes.as_slice()),
-        Err(FromHexError::OutOfMemory) => Err(ShowFault::Memory),
-        Err(_) => Err(ShowFault::NotHex),
+        Err(fault) => Err(fault),
     }
 }
 
 /// Shows the frame of an input that was read, as `show_with` does. It returns no `Read`.
-pub fn show_input<A: Allocator + Copy, W: Write>(
+pub fn show_input<A: Growth + Copy, W: Sink>(
     alloc: A,
     request: &Request<'_>,
     input: &[u8],
@@ -134,11 +134,11 @@ pub fn show_input<A: Allocator + Copy, W: Write>(
     ensures nothing_written { IfErr result (λ fault. fault ≢ ShowFault.Write
         → Keeps (W.contents writer.old) (W.contents writer.new)) }
 
-    // Nothing is read.
-    ensures nothing_read { IfErr result (λ fault. fault ≢ ShowFault.Read) }
+    // An allocation was refused, or a write failed, if the fault says so. Nothing is read.
+    ensures caused { IfErr result (IsShowCause ⊥ (WasRefused A.Refuses) (HasFailed W.Fails)) }
 {
     let (text, relayed) = text_of_input(alloc, request, input)?;
-    match writer.write_all(text.as_slice()) {
+    match writer.write_whole(text.as_slice()) {
         Ok(()) => Ok(relayed),
         Err(_) => Err(ShowFault::Write),
     }
@@ -153,15 +153,14 @@ pub fn show_input<A: Allocator + Copy, W: Write>(
 /// `refused`: `TooLong`, `NotHex` and `NotOneFrame` are returned for their cause and in this order. `Write` is returned
 /// only if there is something to write.
 ///
+/// `caused`: `Read`, `Memory` and `Write` are returned only if a read failed, an allocation was refused or a write failed.
+///
 /// `nothing_written`: every error except `Write` is returned with nothing written.
 ///
 /// `read`: at most 200,001 bytes are read, from a reader that may have no end.
 ///
 /// Premise: a reader and a writer that record their bytes.
-///
-/// Not said: that a read, a growth or a write was refused. Tests show that `Read`, `Memory` and `Write` are returned
-/// only for their cause.
-pub fn show<A: Allocator + Copy, R: Read, W: Write>(
+pub fn show<A: Growth + Copy, R: Source, W: Sink>(
     alloc: A,
     side: Side,
     level: Level,
@@ -175,6 +174,9 @@ pub fn show<A: Allocator + Copy, R: Read, W: Write>(
     // The input has the fault that is returned. A write can fail only if there is something to show.
     ensures refused { IfErr result (λ fault. IfSome (R.remaining reader.old) (λ input.
         IsFaultAt (plain_request side level) input fault)) }
+
+    // A read failed, an allocation was refused, or a write failed, if the fault says so.
+    ensures caused { IfErr result (IsShowCause (HasFailed R.Fails) (WasRefused A.Refuses) (HasFailed W.Fails)) }
 
     // Only a failed write can leave a part of the text written.
     ensures nothing_written { IfErr result (λ fault. fault ≢ ShowFault.Write
@@ -196,7 +198,7 @@ pub fn show<A: Allocator + Copy, R: Read, W: Write>(
 /// Shows a frame as `show` does, with an operator's words and an explanation if the request has them. Messages are
 /// those with the words, and a word is printed by its name. Both calls judge at 254 brackets, the most that settings
 /// can allow.
-pub fn show_with<A: Allocator + Copy, R: Read, W: Write>(
+pub fn show_with<A: Growth + Copy, R: Source, W: Sink>(
     alloc: A,
     request: &Request<'_>,
     reader: &mut R,
@@ -209,6 +211,9 @@ pub fn show_with<A: Allocator + Copy, R: Read, W: Write>(
     // The input has the fault that is returned. A write can fail only if there is something to show.
     ensures refused { IfErr result (λ fault. IfSome (R.remaining reader.old) (λ input.
         IsFaultAt (request_of request.now) input fault)) }
+
+    // A read failed, an allocation was refused, or a write failed, if the fault says so.
+    ensures caused { IfErr result (IsShowCause (HasFailed R.Fails) (WasRefused A.Refuses) (HasFailed W.Fails)) }
 
     // Only a failed write can leave a part of the text written.
     ensures nothing_written { IfErr result (λ fault. fault ≢ ShowFault.Write

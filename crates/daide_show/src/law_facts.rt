@@ -24,11 +24,11 @@ fn one_way_at_two_inputs()
     laws::input_is_shown_in_one_way();
 }
 
-/// A tab, a space and a line feed are dropped, also inside a byte.
-fn blanks_at_an_input()
-    ensures { digits_of (codes "0\t2 00\n") ≡ codes "0200" }
+/// A tab, a space, a line feed, a comma and a colon are dropped, also inside a byte. A semicolon stays.
+fn separators_at_an_input()
+    ensures { digits_of (codes "0\t2 ,0:0\n;") ≡ codes "0200;" }
 {
-    laws::blanks_alone_are_dropped();
+    laws::separators_alone_are_dropped();
 }
 
 /// The explanation of an FM adds no line.

@@ -9,7 +9,7 @@ ghost use Rattle.daide_words.specs.declared.word.Word.{Word};
 ghost use Rattle.daide_reader.specs.declared.verdict.Verdict.{Verdict};
 ghost use Rattle.daide_protocol.specs.Answers.{answer_body};
 ghost use Rattle.daide_show.specs.declared.frame_view.ShowFault.{ShowFault};
-ghost use Rattle.daide_show.specs.Input.{digits_of, is_blank, is_digit_or_blank};
+ghost use Rattle.daide_show.specs.Input.{digits_of, is_ordinary, is_separator};
 ghost use Rattle.daide_show.specs.Note.{fault_of_note, input_note_of, noted_fault};
 ghost use Rattle.daide_show.specs.Shown.{ShowRequest, OnlyAdds, Shown, IsShownAs, is_relay, line, printed};
 ghost use Rattle.daide_show.specs.Shown.{verdict_lines, verdict_name};
@@ -24,9 +24,11 @@ pub fn input_is_shown_in_one_way()
     explained_in_one_way();
 }
 
-/// Of an input of digits and blanks alone the blanks are dropped, and nothing else.
-pub fn blanks_alone_are_dropped()
-    ensures { (input : List ℕ) → list_all is_digit_or_blank input ≡ true → digits_of input ≡ filter (λ b. not (is_blank b)) input }
+/// Of an input without an `x`, a backslash and a quote the separators are dropped, and nothing else. So it is taken only if
+/// each other byte of it is a digit.
+pub fn separators_alone_are_dropped()
+    ensures { (input : List ℕ) → list_all is_ordinary input ≡ true →
+        digits_of input ≡ filter (λ b. not (is_separator b)) input }
 {}
 
 /// What is shown without an explanation is a prefix of what is shown with one, and the result or fault is the same. If

@@ -1,22 +1,24 @@
 //! Why an input is not hexadecimal, or not one frame.
 
-ghost use Rattle.std.specs.Prelude.{◌≡◌, ◌<◌, length, slice_index, IfOk, Some};
+ghost use Rattle.std.specs.Prelude.{◌≡◌, ◌<◌, length, slice_index, IfOk, OnErr, Some};
 ghost use Rattle.std.specs.Fmt.{WritesOnOk};
+ghost use Rattle.daide_causes.specs.Causes.{WasRefused};
 ghost use Rattle.daide_show.specs.Input.{digits_of};
 ghost use Rattle.hex.specs.Hex.{upper_digits};
 ghost use Rattle.daide_protocol.specs.Bounds.{longest_body};
 ghost use Rattle.daide_show.specs.Shown.{parse_frame};
 ghost use Rattle.daide_show.specs.Note.{byte_text, is_bad, digits_note, frame_note, input_note_of, note_of_frame, note_text};
 
-use crate::frame_view::input::{LIMIT, digits_of};
+use crate::frame_view::ShowFault;
+use crate::frame_view::input::{LIMIT, decode, digits_of};
 use crate::frame_view::one_frame::{ParsedInput, find_frame};
 use crate::frame_view::places::{
     InputByte, Place, input_byte, is_hex_digit, may_end_at, next_place,
 };
+use daide_causes::Growth;
 use daide_frame::Cutter;
 use daide_protocol::MAX_BODY;
-use hex::FromHexError;
-use std::alloc::{AllocError, Allocator};
+use std::alloc::AllocError;
 use std::fmt;
 
 /// Why an input is not hexadecimal (the first three), or not one frame.
@@ -129,8 +131,9 @@ fn frame_note(bytes: &[u8]) -> InputNote
 }
 
 /// Returns why some bytes are not one frame, if they are not.
-fn note_of_frame<A: Allocator>(alloc: A, bytes: &[u8]) -> Result<Option<InputNote>, AllocError>
-    ensures { IfOk result (λ note. note ≡ note_of_frame (parse_frame longest_body bytes.now) bytes.now) }
+fn note_of_frame<A: Growth>(alloc: A, bytes: &[u8]) -> Result<Option<InputNote>, AllocError>
+    ensures note { IfOk result (λ note. note ≡ note_of_frame (parse_frame longest_body bytes.now) bytes.now) }
+    ensures refused { OnErr result (WasRefused A.Refuses) }
 {
     let mut cutter = Cutter::new(alloc, MAX_BODY)?;
     match find_frame(&mut cutter, bytes) {
@@ -139,20 +142,19 @@ fn note_of_frame<A: Allocator>(alloc: A, bytes: &[u8]) -> Result<Option<InputNot
     }
 }
 
-/// Returns why an input is not hexadecimal, or not one frame, and `None` for every other input.
-pub fn input_note<A: Allocator + Copy>(
-    alloc: A,
-    input: &[u8],
-) -> Result<Option<InputNote>, AllocError>
-    ensures { IfOk result (λ note. note ≡ input_note_of input.now) }
+/// Returns why an input is not hexadecimal, or not one frame, and `None` for every other input. The only error is that
+/// the allocator refused memory (`refused`).
+pub fn input_note<A: Growth + Copy>(alloc: A, input: &[u8]) -> Result<Option<InputNote>, AllocError>
+    ensures note { IfOk result (λ note. note ≡ input_note_of input.now) }
+    ensures refused { OnErr result (WasRefused A.Refuses) }
 {
     if input.len() > LIMIT {
         return Ok(None);
     }
     let digits = digits_of(alloc, input)?;
-    match hex::decode(alloc, digits.as_slice()) {
+    match decode(alloc, digits.as_slice()) {
         Ok(bytes) => note_of_frame(alloc, bytes.as_slice()),
-        Err(FromHexError::OutOfMemory) => Err(AllocError),
+        Err(ShowFault::Memory) => Err(AllocError),
         Err(_) => Ok(Some(digits_note(input, digits.len()))),
     }
 }

@@ -6,5 +6,7 @@ mod ReadBack
 mod AddedNames
 mod Written
 mod Small
+mod OnlyText
 mod WordFacts
 mod LineFacts
+mod FaultFacts

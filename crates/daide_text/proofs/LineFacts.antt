@@ -1,11 +1,13 @@
 -- Lines of text as tokens, the columns of their faults, and the frames of messages, worked out from docs/FORMATS.md.
 use Rattle.std.proofs.Common.{◌≡◌, ◌&&◌, not, nat_lt, ℕ, Bool, true, false, List, [], ◌∷◌, ◌++◌, length, codes, refl}
-use Rattle.std.proofs.Common.{Ok, Err, arith}
-use Rattle.std.specs.List.{list_all}
+use Rattle.std.proofs.Common.{Ok, Err, arith, is_some, map, replicate}
+use Rattle.std.specs.List.{list_all, range_with_len}
 use Rattle.std.proofs.lemmas.Bool.Decides.{nat_tests}
 use Rattle.daide_token.specs.Names.{Named, token_named, names}
+use Rattle.daide_words.specs.Accepted.{is_capital}
+use Rattle.daide_text.specs.Word.{hex_value, is_digit, token_of_word}
 use Rattle.daide_text.specs.Line.{IsCut, IsPieceBefore, IsReadAs, read_pieces, bytes_of_piece, is_space, is_sign}
-use Rattle.daide_text.specs.Line.{is_in_word, is_in_quote, begins_in_word, Piece, Blank, Sign, Word, Quote, Unclosed}
+use Rattle.daide_text.specs.Line.{is_printable, is_in_word, is_in_quote, begins_in_word, Piece, Blank, Sign, Word, Quote, Unclosed}
 use Rattle.daide_text.specs.Frames.{text_lines, trimmed, frame_line}
 use Rattle.daide_text.proofs.Cuts.{both}
 
@@ -60,6 +62,32 @@ cut (piece ∷ pieces) e =
 pub read : (added : List Named) (pieces : List Piece) → may_all_be pieces ≡ true →
     IsReadAs added (joined pieces) (read_pieces added 1 pieces)
 read added pieces e = (pieces, cut pieces e, refl)
+
+-- ---- bytes, over all of them
+
+-- space and tab; the brackets; from space to `~`; decimal digits; hexadecimal digits of either case; capital letters
+bytes_of_each_kind : (map is_space (range_with_len 0 256) ≡ replicate 9 false ++ true ∷ replicate 22 false ++ true ∷ replicate 223 false)
+    × (map is_sign (range_with_len 0 256) ≡ replicate 40 false ++ replicate 2 true ++ replicate 214 false)
+    × (map is_printable (range_with_len 0 256) ≡ replicate 32 false ++ replicate 95 true ++ replicate 129 false)
+    × (map is_digit (range_with_len 0 256) ≡ replicate 48 false ++ replicate 10 true ++ replicate 198 false)
+    × (map (λ c. is_some (hex_value c)) (range_with_len 0 256)
+    ≡ replicate 48 false ++ replicate 10 true ++ replicate 7 false ++ replicate 6 true ++ replicate 26 false ++ replicate 6 true
+    ++ replicate 153 false)
+    × (map is_capital (range_with_len 0 256) ≡ replicate 65 false ++ replicate 26 true ++ replicate 165 false)
+bytes_of_each_kind = (refl, refl, refl, refl, refl, refl)
+
+-- what ends a word: a space, a tab, a bracket or a quote, and nothing else
+ends_of_words : map is_in_word (range_with_len 0 256)
+    ≡ replicate 9 true ++ false ∷ replicate 22 true ++ false ∷ replicate 6 true ++ replicate 3 false ++ replicate 214 true
+ends_of_words = refl
+
+-- of one byte a word is a token if it is a digit, and after a minus sign
+words_of_a_byte : (map (λ c. is_some (token_of_word [] (c ∷ []))) (range_with_len 0 256)
+    ≡ replicate 48 false ++ replicate 10 true ++ replicate 198 false)
+    × (map (λ c. is_some (token_of_word [] (45 ∷ c ∷ []))) (range_with_len 0 256)
+    ≡ replicate 48 false ++ replicate 10 true ++ replicate 198 false)
+unfolding token_named names
+words_of_a_byte = (refl, refl)
 
 -- ---- items
 

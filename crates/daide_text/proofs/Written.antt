@@ -4,8 +4,8 @@ use Rattle.std.proofs.Common.{append-nil, Option, Some, None, Result, Ok, Err, I
 use Rattle.std.specs.Result.{IsErrAnd}
 use Rattle.std.specs.Io.KnownBytes.{Appends}
 use Rattle.daide_token.specs.Names.{Named}
-use Rattle.daide_text.specs.Frames.{AreFrameLines, AreLinesOf, IsFaultOfNext, IsFrameLine, WritesUpTo, text_lines}
-use Rattle.daide_text.specs.Frames.{most_text_lines}
+use Rattle.daide_text.specs.Frames.{AreFrameLines, AreLinesOf, IsFaultOfNext, IsFrameLine, IsTextCause, WritesUpTo}
+use Rattle.daide_text.specs.Frames.{most_text_lines, text_lines}
 use Rattle.daide_text.specs.Lines.{AreWritten, IsInputFault, IsLineFrom, LeaveLines, LeavesLines}
 use Rattle.daide_text.specs.declared.frames.TextFault.{TextFault}
 use Rattle.daide_text.specs.declared.frames.TextFault.TheVariants as fault
@@ -15,6 +15,16 @@ pub at_error : {A : Type 0} (r : Result A TextFault) (handed : TextFault) (Holds
     IsErrAnd r (λ other. other ≡ handed) → Holds handed → IfErr r Holds
 at_error (Ok x) handed Holds same h = tt
 at_error (Err other) handed Holds same h = subst Holds (sym same) h
+
+-- a cause of a part is one of the whole
+pub cause_of : {read read' write write' : Type 0} (refused : Type 0) → (read → read') → (write → write') → (given : TextFault) →
+    IsTextCause read refused write given → IsTextCause read' refused write' given
+cause_of refused on_read on_write fault.Read h = on_read h
+cause_of refused on_read on_write (fault.NotMessage number column reason) h = tt
+cause_of refused on_read on_write (fault.TooLong number) h = tt
+cause_of refused on_read on_write fault.TooManyLines h = tt
+cause_of refused on_read on_write fault.Memory h = h
+cause_of refused on_read on_write fault.Write h = on_write h
 
 lines_left : Option (List ℕ) → List (List ℕ)
 lines_left None = []

@@ -83,8 +83,8 @@ OfNext P [] = ⊥
 OfNext P (line ∷ lines) = P line
 
 -- A fault of the next lines, after `count` lines that are messages: the number of the line at fault, counted from 1,
--- and the column of the text that is not an item; any reason. A refused read or allocation states nothing about the lines. A write
--- fails only if there is a frame to write.
+-- and the column of the text that is not an item; any reason. A failed read and a refused allocation state nothing about the
+-- lines. A write fails only if there is a frame to write.
 abbrev pub IsFaultOfNext : List Named → ℕ → List (List ℕ) → TextFault → Type 0
 IsFaultOfNext added count next Read = ⊤
 IsFaultOfNext added count next (NotMessage number column reason) =
@@ -94,6 +94,15 @@ IsFaultOfNext added count next (TooLong number) = (number ≡ count + 1) × OfNe
 IsFaultOfNext added count next TooManyLines = (count ≡ most_text_lines) × (next ≢ [])
 IsFaultOfNext added count next Memory = ⊤
 IsFaultOfNext added count next Write = OfNext (λ line. (text : List ℕ) × IsFrameLine added line text) next
+
+-- what happened outside, if a fault says so: a failed read, a refused allocation, a failed write
+abbrev pub IsTextCause : Type 0 → Type 0 → Type 0 → TextFault → Type 0
+IsTextCause read refused write Read = read
+IsTextCause read refused write (NotMessage number column reason) = ⊤
+IsTextCause read refused write (TooLong number) = ⊤
+IsTextCause read refused write TooManyLines = ⊤
+IsTextCause read refused write Memory = refused
+IsTextCause read refused write Write = write
 
 -- these are the lines of an input, if the input is known
 abbrev pub AreLinesOf : Option (List ℕ) → List (List ℕ) → Type 0

@@ -1,5 +1,5 @@
 -- Parsing one piece, and the faults of a line. (own)
-use Rattle.std.specs.Prelude.{◌≡◌, ⊤, ℕ, ◌+◌, ◌<◌, true, List, ◌∷◌, ◌++◌, length, take, drop, Some, None, Result, Err}
+use Rattle.std.specs.Prelude.{◌≡◌, ℕ, ◌+◌, ◌<◌, true, List, ◌∷◌, ◌++◌, length, take, drop, Some, None, Result, Err}
 use Rattle.std.specs.List.{list_all}
 use Rattle.daide_token.specs.Names.{Named}
 use Rattle.daide_text.specs.Line.{IsPieceBefore, IsReadAs, IsReadFrom, Piece, bytes_of_piece, is_in_quote, read_on, tokens_of_piece}
@@ -18,10 +18,10 @@ IsRefusedPiece added rest =
     (piece : Piece) × (after : List ℕ) × (rest ≡ bytes_of_piece piece ++ after) × IsPieceBefore piece after
     × (tokens_of_piece added piece ≡ None)
 
--- a fault of a line
-abbrev pub IsLineFault : List Named → List ℕ → LineFault → Type 0
-IsLineFault added line (NotItem column) = IsReadAs added line (Err column)
-IsLineFault added line Memory = ⊤
+-- a fault of a line, or an allocation that was refused
+abbrev pub IsLineFault : Type 0 → List Named → List ℕ → LineFault → Type 0
+IsLineFault refused added line (NotItem column) = IsReadAs added line (Err column)
+IsLineFault refused added line Memory = refused
 
 -- the front of a line was parsed as these tokens; the result for the whole line is these, followed by the result for
 -- the rest

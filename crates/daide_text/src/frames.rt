@@ -1,20 +1,21 @@
 //! Lines of text, each written as the frame of its message.
 
-ghost use Rattle.std.specs.Prelude.{◌≡◌, ◌+◌, ◌≤◌, ◌*◌, ◌++◌, ◌∷◌, ℕ, List, length, IfOk, IfErr, OnOk, Err};
+ghost use Rattle.std.specs.Prelude.{◌≡◌, ◌+◌, ◌≤◌, ◌*◌, ◌++◌, ◌∷◌, ℕ, List, length, IfOk, IfErr, OnOk, OnErr, Err};
+ghost use Rattle.daide_causes.specs.Causes.{HasFailed, WasRefused};
 ghost use Rattle.daide_token.specs.Token.{bytes_of_tokens};
 ghost use Rattle.daide_words.specs.Word.{names_of};
 ghost use Rattle.daide_words.specs.Words.{words_of};
-ghost use Rattle.daide_text.specs.Frames.{IsFaultOfNext, IsFrameLine, Writes, WritesUpTo};
+ghost use Rattle.daide_text.specs.Frames.{IsFaultOfNext, IsFrameLine, IsTextCause, Writes, WritesUpTo};
 ghost use Rattle.daide_token.specs.HexDigits.{digits_of_byte as digits_in};
 ghost use Rattle.daide_text.specs.Frames.{frame_line, longest_text_line, more_pairs, most_frame_tokens, trimmed};
 
 use crate::input::read_line;
 use crate::line::{LineFault, read_tokens};
 use crate::reason::{Reason, reason_at};
+use daide_causes::{Growth, Sink, Source};
 use daide_token::{Token, digits_of_byte};
 use daide_words::Words;
-use std::alloc::{AllocError, Allocator};
-use std::io::{Read, Write};
+use std::alloc::AllocError;
 use thiserror::Error;
 
 /// The most tokens of a message.
@@ -56,16 +57,16 @@ pub enum TextFault {
 ///
 /// `refused`: the frames of the lines before the first fault were written, and the fault is that of the next line.
 ///
-/// Premise: a reader and a writer that record their bytes.
+/// `caused`: `Read`, `Memory` and `Write` are returned only if a read failed, an allocation was refused or a write failed.
 ///
-/// Not said: that `Read`, `Memory` and `Write` are returned only for their cause. Tests show it.
+/// Premise: a reader and a writer that record their bytes.
 ///
 /// # Errors
 ///
 /// The first line that has a fault is reported, by the first of these: `Read`; `TooLong` for its bytes; `NotMessage`;
 /// `TooLong` for its tokens; `Write`. `Memory` is returned for the growth that was refused, and `TooManyLines` once
 /// line 1,000,001 was read.
-pub fn write_frames<A: Allocator + Copy, R: Read, W: Write>(
+pub fn write_frames<A: Growth + Copy, R: Source, W: Sink>(
     alloc: A,
     words: &Words,
     reader: &mut R,
@@ -75,13 +76,14 @@ pub fn write_frames<A: Allocator + Copy, R: Read, W: Write>(
         (W.contents writer.old) (W.contents writer.new)) }
     ensures refused { IfErr result (WritesUpTo (names_of (words_of words.now)) (R.remaining reader.old)
         (W.contents writer.old) (W.contents writer.new)) }
+    ensures caused { IfErr result (IsTextCause (HasFailed R.Fails) (WasRefused A.Refuses) (HasFailed W.Fails)) }
 {
     for count in 0..MOST_LINES {
         let Some(line) = read_line(alloc, count + 1, reader)? else {
             return Ok(());
         };
         let text = frame_text(alloc, words, count + 1, line.as_slice())?;
-        if writer.write_all(text.as_slice()).is_err() {
+        if writer.write_whole(text.as_slice()).is_err() {
             return Err(TextFault::Write);
         }
     }
@@ -92,7 +94,7 @@ pub fn write_frames<A: Allocator + Copy, R: Read, W: Write>(
 }
 
 /// Returns the output line for the line of this number.
-fn frame_text<A: Allocator + Copy>(
+fn frame_text<A: Growth + Copy>(
     alloc: A,
     words: &Words,
     number: u32,
@@ -102,7 +104,7 @@ fn frame_text<A: Allocator + Copy>(
     ensures text { IfOk result (λ text. IsFrameLine (names_of (words_of words.now)) line.now text.items) }
     ensures refused { IfErr result (λ fault. (count : ℕ) (more : List (List ℕ)) → number ≡ count + 1
         → IsFaultOfNext (names_of (words_of words.now)) count (line.now ∷ more) fault) }
-    ensures written { result ≡ Err TextFault.Write → ⊥ }
+    ensures caused { IfErr result (IsTextCause ⊥ (WasRefused A.Refuses) ⊥) }
 {
     let message = trimmed(line);
     let tokens = match read_tokens(alloc, words, message) {
@@ -132,9 +134,10 @@ fn trimmed(line: &[u8]) -> &[u8]
 }
 
 /// Returns the frame of a message as a line of digits.
-fn frame_line<A: Allocator>(alloc: A, tokens: &[Token]) -> Result<Vec<u8, A>, AllocError>
+fn frame_line<A: Growth>(alloc: A, tokens: &[Token]) -> Result<Vec<u8, A>, AllocError>
     requires { length tokens.now ≤ most_frame_tokens }
-    ensures { IfOk result (λ text. text.items ≡ frame_line tokens.now) }
+    ensures text { IfOk result (λ text. text.items ≡ frame_line tokens.now) }
+    ensures refused { OnErr result (WasRefused A.Refuses) }
 {
     let [high, low] = ((tokens.len() * 2) as u16).to_be_bytes();
     let mut text = Vec::new(alloc);
@@ -143,13 +146,14 @@ fn frame_line<A: Allocator>(alloc: A, tokens: &[Token]) -> Result<Vec<u8, A>, Al
     push_byte(high, &mut text)?;
     push_byte(low, &mut text)?;
     push_tokens(tokens, &mut text)?;
-    text.extend_from_slice(b"\n")?;
+    A::append(&mut text, b"\n")?;
     Ok(text)
 }
 
 /// Appends the bytes of tokens, with a space before each byte.
-fn push_tokens<A: Allocator>(tokens: &[Token], text: &mut Vec<u8, A>) -> Result<(), AllocError>
-    ensures { OnOk result (text.new.items ≡ text.old.items ++ more_pairs (bytes_of_tokens tokens.now)) }
+fn push_tokens<A: Growth>(tokens: &[Token], text: &mut Vec<u8, A>) -> Result<(), AllocError>
+    ensures text { OnOk result (text.new.items ≡ text.old.items ++ more_pairs (bytes_of_tokens tokens.now)) }
+    ensures refused { OnErr result (WasRefused A.Refuses) }
 {
     let mut rest = tokens;
     while let [token, others @ ..] = rest {
@@ -162,16 +166,18 @@ fn push_tokens<A: Allocator>(tokens: &[Token], text: &mut Vec<u8, A>) -> Result<
 }
 
 /// Appends the two digits of a byte, without a space.
-fn push_first<A: Allocator>(byte: u8, text: &mut Vec<u8, A>) -> Result<(), AllocError>
-    ensures { OnOk result (text.new.items ≡ text.old.items ++ digits_in byte) }
+fn push_first<A: Growth>(byte: u8, text: &mut Vec<u8, A>) -> Result<(), AllocError>
+    ensures text { OnOk result (text.new.items ≡ text.old.items ++ digits_in byte) }
+    ensures refused { OnErr result (WasRefused A.Refuses) }
 {
-    text.extend_from_slice(&digits_of_byte(byte))
+    A::append(text, &digits_of_byte(byte))
 }
 
 /// Appends a space and the two digits of a byte.
-fn push_byte<A: Allocator>(byte: u8, text: &mut Vec<u8, A>) -> Result<(), AllocError>
-    ensures { OnOk result (text.new.items ≡ text.old.items ++ 32 ∷ digits_in byte) }
+fn push_byte<A: Growth>(byte: u8, text: &mut Vec<u8, A>) -> Result<(), AllocError>
+    ensures text { OnOk result (text.new.items ≡ text.old.items ++ 32 ∷ digits_in byte) }
+    ensures refused { OnErr result (WasRefused A.Refuses) }
 {
     let [high, low] = digits_of_byte(byte);
-    text.extend_from_slice(&[b' ', high, low])
+    A::append(text, &[b' ', high, low])
 }

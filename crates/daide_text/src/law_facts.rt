@@ -33,3 +33,10 @@ fn canonical_text_at_a_value()
 {
     laws::canonical_text_is_read_alike();
 }
+
+/// A vertical tab is in no line that is read.
+fn only_text_at_a_value()
+    ensures { (ts : List ℕ) → IsText [] (71 ∷ 11 ∷ []) ts → ⊥ }
+{
+    laws::text_alone_is_read();
+}

@@ -1,13 +1,13 @@
 //! Laws of the text form: what is printed is read back, and a line is read in one way.
 
-ghost use Rattle.std.specs.Prelude.{◌≡◌, ◌^◌, ◌<◌, ℕ, List, Result, length, true};
-ghost use Rattle.std.specs.List.{All};
+ghost use Rattle.std.specs.Prelude.{◌≡◌, ◌^◌, ◌<◌, ◌==◌, ◌||◌, ℕ, List, Result, length, true};
+ghost use Rattle.std.specs.List.{All, list_all};
 ghost use Rattle.daide_token.specs.Names.{Named};
 ghost use Rattle.daide_token.specs.Text.{text_with};
 ghost use Rattle.daide_words.specs.Accepted.{are_accepted};
 ghost use Rattle.daide_words.specs.Word.{names_of};
 ghost use Rattle.daide_words.specs.declared.word.Word.{Word};
-ghost use Rattle.daide_text.specs.Line.{IsReadAs, IsText};
+ghost use Rattle.daide_text.specs.Line.{IsReadAs, IsText, is_printable};
 
 use daide_token::laws::names_come_back;
 
@@ -33,6 +33,12 @@ pub fn lines_are_read_in_one_way()
 /// Every line has a reading: as tokens, or with its first fault at a column.
 pub fn each_line_is_read()
     ensures { (added : List Named) (line : List ℕ) → (outcome : Result (List ℕ) ℕ) × IsReadAs added line outcome }
+{}
+
+/// A line that is read as tokens has only characters from space to `~`, and tabs.
+pub fn text_alone_is_read()
+    ensures { (added : List Named) (line ts : List ℕ) → IsText added line ts →
+        list_all (λ c. is_printable c || c == 9) line ≡ true }
 {}
 
 /// The text that `show` prints for the tokens of a text is a text of the same tokens. Others may exist, since blanks

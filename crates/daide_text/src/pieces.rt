@@ -3,6 +3,7 @@
 ghost use Rattle.std.specs.Prelude.{◌≡◌, ◌<◌, ◌≤◌, [], ◌∷◌, ◌++◌, true, false, List, length, take, drop, map};
 ghost use Rattle.std.specs.Prelude.{IfOk, OnOk, Err, MatchOption};
 ghost use Rattle.std.specs.List.{list_all};
+ghost use Rattle.daide_causes.specs.Causes.{WasRefused};
 ghost use Rattle.daide_token.specs.Names.{Named};
 ghost use Rattle.daide_words.specs.Word.{names_of};
 ghost use Rattle.daide_words.specs.Words.{words_of};
@@ -10,9 +11,9 @@ ghost use Rattle.daide_text.specs.Line.{begins_in_word, character_token, is_in_q
 ghost use Rattle.daide_text.specs.Pieces.{EndsQuote, IsRefusedPiece, IsTakenPiece};
 
 use crate::word::token_of_word;
+use daide_causes::Growth;
 use daide_token::{BRA, KET, Token};
 use daide_words::Words;
-use std::alloc::Allocator;
 
 /// The token of the character 0.
 const CHARACTERS: u16 = 0x4B00;
@@ -27,7 +28,7 @@ pub(crate) enum PieceFault {
 }
 
 /// Parses the first piece of the rest of a line, appends its tokens, and returns the text after it.
-pub(crate) fn take_piece<'a, A: Allocator>(
+pub(crate) fn take_piece<'a, A: Growth>(
     words: &Words,
     rest: &'a [u8],
     tokens: &mut Vec<Token, A>,
@@ -36,6 +37,7 @@ pub(crate) fn take_piece<'a, A: Allocator>(
     ensures taken { IfOk result (λ after. IsTakenPiece (names_of (words_of words.now)) rest.now after.now
         tokens.old.items tokens.new.items) }
     ensures refused { result ≡ Err PieceFault.NotItem → IsRefusedPiece (names_of (words_of words.now)) rest.now }
+    ensures memory { result ≡ Err PieceFault.Memory → WasRefused A.Refuses }
 {
     let [first, after @ ..] = rest else {
         unreachable!();
@@ -56,7 +58,7 @@ pub(crate) fn take_piece<'a, A: Allocator>(
 }
 
 /// Parses the word at the start of the rest of a line.
-fn take_word<'a, A: Allocator>(
+fn take_word<'a, A: Growth>(
     words: &Words,
     rest: &'a [u8],
     tokens: &mut Vec<Token, A>,
@@ -65,6 +67,7 @@ fn take_word<'a, A: Allocator>(
     ensures taken { IfOk result (λ after. IsTakenPiece (names_of (words_of words.now)) rest.now after.now
         tokens.old.items tokens.new.items) }
     ensures refused { result ≡ Err PieceFault.NotItem → IsRefusedPiece (names_of (words_of words.now)) rest.now }
+    ensures memory { result ≡ Err PieceFault.Memory → WasRefused A.Refuses }
 {
     let end = word_end(rest);
     let Some(token) = token_of_word(words, &rest[..end]) else {
@@ -75,13 +78,14 @@ fn take_word<'a, A: Allocator>(
 }
 
 /// Parses the text after a quote, up to the next quote.
-fn take_quote<'a, A: Allocator>(
+fn take_quote<'a, A: Growth>(
     rest: &'a [u8],
     tokens: &mut Vec<Token, A>,
 ) -> Result<&'a [u8], PieceFault>
     ensures taken { (added : List Named) → IfOk result (λ after. IsTakenPiece added (39 ∷ rest.now) after.now
         tokens.old.items tokens.new.items) }
     ensures refused { result ≡ Err PieceFault.NotItem → (added : List Named) → IsRefusedPiece added (39 ∷ rest.now) }
+    ensures memory { result ≡ Err PieceFault.Memory → WasRefused A.Refuses }
 {
     let Some(end) = quote_end(rest) else {
         return Err(PieceFault::NotItem);
@@ -94,23 +98,25 @@ fn take_quote<'a, A: Allocator>(
 }
 
 /// Appends a token.
-fn append<A: Allocator>(token: Token, tokens: &mut Vec<Token, A>) -> Result<(), PieceFault>
+fn append<A: Growth>(token: Token, tokens: &mut Vec<Token, A>) -> Result<(), PieceFault>
     ensures appended { OnOk result (tokens.new.items ≡ tokens.old.items ++ token ∷ []) }
     ensures refused { result ≡ Err PieceFault.NotItem → ⊥ }
+    ensures memory { result ≡ Err PieceFault.Memory → WasRefused A.Refuses }
 {
-    match tokens.push(token) {
+    match A::append(tokens, &[token]) {
         Ok(()) => Ok(()),
         Err(_) => Err(PieceFault::Memory),
     }
 }
 
 /// Appends the tokens of characters.
-fn append_characters<A: Allocator>(
+fn append_characters<A: Growth>(
     characters: &[u8],
     tokens: &mut Vec<Token, A>,
 ) -> Result<(), PieceFault>
     ensures appended { OnOk result (tokens.new.items ≡ tokens.old.items ++ map character_token characters.now) }
     ensures refused { result ≡ Err PieceFault.NotItem → ⊥ }
+    ensures memory { result ≡ Err PieceFault.Memory → WasRefused A.Refuses }
 {
     let mut rest = characters;
     while let [character, others @ ..] = rest {

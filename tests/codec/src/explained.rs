@@ -28,6 +28,7 @@ bot 30 | 0200002C 4817 4000 4102 4001 4000 4A13 4000 4A01 4000 4A01 4000 4801 40
 server 0 | 0200000C 4815 4000 4102 510A 4001 4102 | DM 12/SCO ( FRA PAR ) FRA/HUH at 5/HUH ( SCO ( FRA PAR ) ERR FRA )/expected: ( <end>/
 bot 0 | 02000002 480F | DM 2/OBS/relay/
 bot 0 | 00000004 0001 DA11 | fault 04/wrong magic number DA11 at byte 6/expected: DA10/
+bot 0 | 02000004 5800 4803 | fault 0E/invalid token 5800 at byte 4/expected: 0000 to 4BFF, or 5000 to 57FF/
 bot 0 | 02000006 4803 6000 6100 | fault 0E/invalid token 6000 at byte 6/expected: 0000 to 4BFF, or 5000 to 57FF/
 server 0 | 01000000 | RM 0/relay/
 bot 0 | 020000044803400 | input is not hexadecimal

@@ -16,11 +16,15 @@ mod grammar;
 #[cfg(test)]
 mod judging;
 #[cfg(test)]
+mod limits;
+#[cfg(test)]
 mod log;
 #[cfg(test)]
 mod messages;
 #[cfg(test)]
 mod parts;
+#[cfg(test)]
+mod powers;
 #[cfg(test)]
 mod ranges;
 #[cfg(test)]

@@ -2,7 +2,7 @@
 
 use daide_frame::side::Side::Bot;
 use daide_gate::frame_view::show;
-use daide_gate::settings::read_settings;
+use daide_gate::settings::{SettingsError, read_settings};
 use daide_grammar::level::Level;
 use daide_log::check::check_log;
 use daide_test_support::rows::{holds, same};
@@ -132,22 +132,57 @@ fn frame_of_each_length_is_shown(rt: HostRuntime) -> Result<(), Fail> {
     Ok(())
 }
 
-/// Returns the addresses, followed by a comment of `letters` letters.
-fn settings_of(alloc: Global, letters: usize) -> Result<String, Fail> {
-    let mut text = String::new(alloc);
-    text.push_str("listen = \"a:1\"\nserver = \"b:2\"\n#")?;
-    for _letter in 0..letters {
-        text.push('a')?;
+/// A text before a comment | its fault, or empty if it has none. Each has 31 bytes.
+#[rattlefmt::skip]
+const FRONTS: &[(&str, &str)] = &[
+    ("listen = \"a:1\"\nserver = \"b:2\"\n#", ""),
+    ("listen = \"a:1\"\nserver = \"b\"  \n#", "server out of range"),
+    ("listen = \"a:1\"\nserver ; \"b:2\"\n#", "settings are not TOML"),
+];
+
+/// Checks texts of `size` bytes, most of which are a comment.
+fn assert_settings_of(alloc: Global, size: usize) -> Result<(), Fail> {
+    for (front, fault) in FRONTS {
+        let mut text = String::from_str(alloc, front)?;
+        for _letter in front.len()..size {
+            text.push('a')?;
+        }
+        let found = match read_settings(alloc, text.as_str()) {
+            Ok(_) => String::new(alloc),
+            Err(fault) => fault.to_string(alloc)?,
+        };
+        same(&found.as_str(), fault, &size)?;
     }
-    Ok(text)
+    Ok(())
 }
 
+/// Checks settings of each power of two of bytes, of one less and of one more.
 #[test]
 fn settings_of_any_length(rt: HostRuntime) -> Result<(), Fail> {
-    for letters in &[0, 1, 777, 4_096, 59_999, 60_001, 65_000, 65_508] {
-        let text = settings_of(rt.alloc(), *letters)?;
-        let settings = read_settings(rt.alloc(), text.as_str())?;
-        same(&settings.sessions, &1, letters)?;
+    for power in 5..=16u32 {
+        let size = 1usize << power;
+        for size in [size - 1, size, size + 1] {
+            assert_settings_of(rt.alloc(), size)?;
+        }
+    }
+    Ok(())
+}
+
+/// Checks documents of each power of two of unknown keys, of one less and of one more.
+#[test]
+fn settings_of_any_number_of_keys(rt: HostRuntime) -> Result<(), Fail> {
+    let mut text = String::new(rt.alloc());
+    let mut keys = 0usize;
+    for power in 1..=12u32 {
+        let count = 1usize << power;
+        for count in [count - 1, count, count + 1] {
+            for key in keys..count {
+                text.push_str(format!(in rt.alloc(); "k{key} = {key}\n")?.as_str())?;
+            }
+            keys = keys.max(count);
+            let found = read_settings(rt.alloc(), text.as_str()).err();
+            same(&found, &Some(SettingsError::Unknown), &count)?;
+        }
     }
     Ok(())
 }

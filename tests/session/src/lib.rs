@@ -16,6 +16,8 @@ mod cut_frames;
 #[cfg(test)]
 mod endings;
 #[cfg(test)]
+mod fakes;
+#[cfg(test)]
 mod fault_fields;
 #[cfg(test)]
 mod growths;

@@ -1,11 +1,12 @@
 //! An address, stored as its text.
 
-ghost use Rattle.std.specs.Prelude.{◌≡◌, ◌≤◌, ℕ, List, string_bytes, IfOk};
+ghost use Rattle.std.specs.Prelude.{◌≡◌, ◌≤◌, ℕ, List, string_bytes, IfOk, OnErr};
 ghost use Rattle.std.specs.List.{list_all};
 ghost use Rattle.daide_settings.specs.Addresses.{are_port_digits, ends_in_port, is_address, is_no_slash, is_port_number, is_port};
 ghost use Rattle.daide_settings.specs.Addresses.{most_port};
 
-use std::alloc::{AllocError, Global};
+use super::memory::SettingsMemory;
+use std::alloc::AllocError;
 use std::marker::Model;
 
 /// The highest port.
@@ -25,11 +26,12 @@ impl Model for Address {
 
 impl Address {
     /// Creates an address by copying the text.
-    pub(crate) fn new(alloc: Global, text: &str) -> Result<Address, AllocError>
-        ensures { IfOk result (λ address. address ≡ text.now) }
+    pub(super) fn new<A: SettingsMemory>(alloc: A, text: &str) -> Result<Address, AllocError>
+        ensures copied { IfOk result (λ address. address ≡ text.now) }
+        ensures refused { OnErr result (A.Refuses text.now) }
     {
         Ok(Address {
-            text: String::from_str(alloc, text)?,
+            text: alloc.copy(text)?,
         })
     }
 

@@ -1,8 +1,9 @@
 //! The path of a control socket, stored as its text.
 
-ghost use Rattle.std.specs.Prelude.{◌≡◌, ℕ, List, option_map, string_bytes, IfOk};
+ghost use Rattle.std.specs.Prelude.{◌≡◌, ℕ, List, option_map, string_bytes, IfOk, OnErr, IsSomeAnd};
 
-use std::alloc::{AllocError, Global};
+use super::memory::SettingsMemory;
+use std::alloc::AllocError;
 use std::marker::Model;
 
 /// The path of the Unix-domain socket on which a run takes an operator's requests. The abstract value is its bytes.
@@ -19,17 +20,22 @@ impl Model for ControlPath {
 
 impl ControlPath {
     /// Creates a path by copying the text.
-    fn new(alloc: Global, text: &str) -> Result<ControlPath, AllocError>
-        ensures { IfOk result (λ path. path ≡ text.now) }
+    fn new<A: SettingsMemory>(alloc: A, text: &str) -> Result<ControlPath, AllocError>
+        ensures copied { IfOk result (λ path. path ≡ text.now) }
+        ensures refused { OnErr result (A.Refuses text.now) }
     {
         Ok(ControlPath {
-            text: String::from_str(alloc, text)?,
+            text: alloc.copy(text)?,
         })
     }
 
     /// Creates the path of a text, if there is one, by copying the text.
-    pub(super) fn of(alloc: Global, text: Option<&str>) -> Result<Option<ControlPath>, AllocError>
-        ensures { IfOk result (λ path. path ≡ option_map (λ text. text.now) text.entry) }
+    pub(super) fn of<A: SettingsMemory>(
+        alloc: A,
+        text: Option<&str>,
+    ) -> Result<Option<ControlPath>, AllocError>
+        ensures copied { IfOk result (λ path. path ≡ option_map (λ text. text.now) text.entry) }
+        ensures refused { OnErr result (IsSomeAnd (option_map (λ text. text.now) text.entry) A.Refuses) }
     {
         match text {
             Some(text) => Ok(Some(ControlPath::new(alloc, text)?)),

@@ -1,6 +1,6 @@
 //! Reads the settings of a document.
 
-ghost use Rattle.std.specs.Prelude.{◌≡◌, ◌≢◌, true, IfOk, IfErr, MatchResult, Ok, Err, option_map, string_bytes};
+ghost use Rattle.std.specs.Prelude.{◌≡◌, ◌≢◌, ◌⊎◌, true, IfOk, IfErr, IsSomeAnd, OnErr, MatchResult, Ok, Err, option_map, string_bytes};
 ghost use Rattle.std.specs.Result.{result_err};
 ghost use Rattle.std.specs.List.{list_all};
 ghost use Rattle.std.specs.BTreeMap.{keys};
@@ -9,6 +9,7 @@ ghost use Rattle.toml.specs.View.{view, table_view};
 ghost use Rattle.toml.specs.Parse.{parse_document};
 ghost use Rattle.daide_protocol.specs.Bounds.{IsSessionCount};
 ghost use Rattle.daide_protocol.specs.Config.{config_fault};
+ghost use Rattle.daide_settings.specs.Causes.{IsSettingsCause, IsFaultBy};
 ghost use Rattle.daide_settings.specs.Given.{given_of};
 ghost use Rattle.daide_settings.specs.LimitSettings.{config_judged, run_limits_judged};
 ghost use Rattle.daide_settings.specs.Settings.{key_text, is_known as is_known_key, is_in_range};
@@ -19,10 +20,11 @@ use crate::settings::address::{Address, is_address};
 use crate::settings::allow::ranges_at;
 use crate::settings::control_path::ControlPath;
 use crate::settings::key::{Key, is_known};
+use crate::settings::memory::SettingsMemory;
 use crate::settings::words::words_at;
 use crate::settings::{Settings, SettingsError};
 use daide_protocol::config::Config;
-use std::alloc::Global;
+use std::alloc::AllocError;
 use toml::{Table, Value};
 
 /// The limits of a whole run.
@@ -181,11 +183,31 @@ fn run_limits_at(table: &Table) -> Result<RunLimits, SettingsError>
     })
 }
 
+/// The texts of settings, copied.
+type Copies = (Address, Address, Option<ControlPath>);
+
+/// Copies both addresses, and the path if there is one.
+fn copies_of<A: SettingsMemory>(
+    alloc: A,
+    listen: &str,
+    server: &str,
+    control: Option<&str>,
+) -> Result<Copies, AllocError>
+    ensures copied { IfOk result (λ copies. (copies.0 ≡ listen.now) × (copies.1 ≡ server.now)
+        × (copies.2 ≡ option_map (λ text. text.now) control.entry)) }
+    ensures refused { OnErr result (A.Refuses listen.now
+        ⊎ (A.Refuses server.now ⊎ IsSomeAnd (option_map (λ text. text.now) control.entry) A.Refuses)) }
+{
+    let listen = Address::new(alloc, listen)?;
+    let server = Address::new(alloc, server)?;
+    let control = ControlPath::of(alloc, control)?;
+    Ok((listen, server, control))
+}
+
 /// Reads the settings of a document.
-fn settings_of(alloc: Global, table: &Table) -> Result<Settings, SettingsError>
+fn settings_of<A: SettingsMemory>(alloc: A, table: &Table) -> Result<Settings, SettingsError>
     ensures judged { IfOk result (λ settings. judged_members (table_view table.now) ≡ Ok (given_of settings)) }
-    ensures refused { IfErr result (λ fault. fault ≢ SettingsError.Memory →
-        judged_members (table_view table.now) ≡ Err fault) }
+    ensures refused { IfErr result (IsFaultBy A.Refuses (judged_members (table_view table.now))) }
 {
     if !has_only_known(table) {
         return Err(SettingsError::Unknown);
@@ -200,13 +222,7 @@ fn settings_of(alloc: Global, table: &Table) -> Result<Settings, SettingsError>
     let allow = ranges_at(found(table, Key::Allow))?;
     let max_per_address = number_at(table, Key::MaxPerAddress)?;
     let control = text_at(table, Key::Control)?;
-    let Ok(listen) = Address::new(alloc, listen) else {
-        return Err(SettingsError::Memory);
-    };
-    let Ok(server) = Address::new(alloc, server) else {
-        return Err(SettingsError::Memory);
-    };
-    let Ok(control) = ControlPath::of(alloc, control) else {
+    let Ok((listen, server, control)) = copies_of(alloc, listen, server, control) else {
         return Err(SettingsError::Memory);
     };
     Ok(Settings {
@@ -235,15 +251,17 @@ fn settings_of(alloc: Global, table: &Table) -> Result<Settings, SettingsError>
 /// `refused`: every fault except refused memory is returned if and only if that judgement has it. The order is: no
 /// TOML; an unknown key; then key by key, in the order of `Key`, missing, of the wrong type, out of range.
 ///
-/// Not said: what a TOML document is, which `toml` defines. Nor is it said that memory was refused if `Memory` is
-/// returned, so a body that always returns it would be proved too. `tests/program` refuses each growth of such runs in
-/// turn.
-pub fn read_settings(alloc: Global, text: &str) -> Result<Settings, SettingsError>
+/// `cause`: `Memory` is returned only after memory was refused: for the document, or, if the document has no fault, for a
+/// copy of an address or of the path (`IsSettingsCause`).
+///
+/// Not said: what a TOML document is, which `toml` defines.
+pub fn read_settings<A: SettingsMemory>(alloc: A, text: &str) -> Result<Settings, SettingsError>
     ensures judged { IfOk result (λ settings. judged_settings (parse_document text.now) ≡ Ok (given_of settings)) }
     ensures refused { IfErr result (λ fault. fault ≢ SettingsError.Memory →
         judged_settings (parse_document text.now) ≡ Err fault) }
+    ensures cause { IfErr result (IsSettingsCause A.Refuses text.now) }
 {
-    match toml::table_from_str(alloc, text) {
+    match alloc.document(text) {
         Ok(table) => settings_of(alloc, &table),
         Err(fault) if fault.is_memory() => Err(SettingsError::Memory),
         Err(_) => Err(SettingsError::NotToml),

@@ -1,18 +1,18 @@
 //! Why a frame is at fault.
 
-ghost use Rattle.std.specs.Prelude.{◌≡◌, ◌≤◌, ◌++◌, length, unwrap_or, OnOk};
+ghost use Rattle.std.specs.Prelude.{◌≡◌, ◌≤◌, ◌++◌, length, unwrap_or, OnOk, OnErr};
+ghost use Rattle.daide_causes.specs.Causes.{WasRefused};
 ghost use Rattle.daide_frame.specs.Frames.{first_alien};
 ghost use Rattle.daide_frame.specs.Head.{kind_of};
 ghost use Rattle.daide_protocol.specs.Bounds.{longest_body};
 ghost use Rattle.daide_show.specs.Cause.{expected_length, expected_value, faulty_body, right_length};
 ghost use Rattle.daide_show.specs.Shown.{cause_lines};
 
+use daide_causes::Growth;
 use daide_frame::Code;
 use daide_io::{FaultCause, FaultField};
 use daide_token::token_at;
-use std::alloc::Allocator;
-use std::io;
-use std::io::Write;
+use std::alloc::AllocError;
 
 /// Returns the number of bytes up to the end of the first token of no known category; 0 without one.
 fn first_alien_end(body: &[u8]) -> usize
@@ -77,21 +77,22 @@ fn expected_value(code: Code, header: &[u8], field: FaultField) -> &'static str
 }
 
 /// Writes the lines that explain a fault, from the header and the body up to it.
-pub(super) fn write_cause<A: Allocator>(
+pub(super) fn write_cause<A: Growth>(
     code: Code,
     header: &[u8],
     body: &[u8],
     text: &mut Vec<u8, A>,
-) -> io::Result<()>
+) -> Result<(), AllocError>
     requires { length body.now ≤ longest_body }
-    ensures { OnOk result (text.new.items ≡ text.old.items ++ cause_lines code header.now body.now) }
+    ensures text { OnOk result (text.new.items ≡ text.old.items ++ cause_lines code header.now body.now) }
+    ensures refused { OnErr result (WasRefused A.Refuses) }
 {
     let field = FaultField::of(code, false, header, body);
     let cause = FaultCause { code, field };
-    writeln!(text, "{cause}")?;
+    A::append_text(text, format_args_nl!("{cause}"))?;
     let Some(field) = field else {
         return Ok(());
     };
     let expected = expected_value(code, header, field);
-    writeln!(text, "expected: {expected}")
+    A::append_text(text, format_args_nl!("expected: {expected}"))
 }

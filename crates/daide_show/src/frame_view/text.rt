@@ -1,6 +1,7 @@
 //! The text of a frame.
 
-ghost use Rattle.std.specs.Prelude.{◌≡◌, ◌≤◌, ◌%◌, ◌++◌, ℕ, List, length, take, true, IfOk, OnOk};
+ghost use Rattle.std.specs.Prelude.{◌≡◌, ◌≤◌, ◌%◌, ◌++◌, ℕ, List, length, take, true, IfOk, OnOk, OnErr};
+ghost use Rattle.daide_causes.specs.Causes.{WasRefused};
 ghost use Rattle.daide_token.specs.Token.{tokens_of};
 ghost use Rattle.daide_frame.specs.Head.{has_right_length};
 ghost use Rattle.daide_frame.specs.InitialMessage.{im_of};
@@ -16,16 +17,14 @@ ghost use Rattle.daide_show.specs.Shown.{cause_lines, frame_fault_lines, lines_i
 
 use super::Request;
 use super::cause::{faulty_body, write_cause};
-use daide_explain::{Rules, answer_of, verdict_of, write_explained};
+use daide_causes::Growth;
+use daide_explain::{Rules, answer_of, append_tokens, verdict_of, write_explained};
 use daide_frame::{Code, Head, Kind, check_im};
 use daide_protocol::transitions::side2_of;
 use daide_protocol::{MAX_BODY, MAX_DEPTH};
 use daide_reader::Verdict;
-use daide_token::write_text_with;
 use daide_words::Words;
-use std::alloc::Allocator;
-use std::io;
-use std::io::Write;
+use std::alloc::AllocError;
 
 /// Returns the rules for judging a message of the request: those of its side and level, at the greatest depth limit.
 fn rules_of<'a>(request: &Request<'a>) -> Rules<'a>
@@ -43,45 +42,52 @@ fn rules_of<'a>(request: &Request<'a>) -> Rules<'a>
 }
 
 /// Writes a frame's kind and the length of its body.
-fn write_kind<A: Allocator>(head: Head, text: &mut Vec<u8, A>) -> io::Result<()>
-    ensures { OnOk result (text.new.items ≡ text.old.items ++ kind_line head.kind head.len) }
+fn write_kind<A: Growth>(head: Head, text: &mut Vec<u8, A>) -> Result<(), AllocError>
+    ensures text { OnOk result (text.new.items ≡ text.old.items ++ kind_line head.kind head.len) }
+    ensures refused { OnErr result (WasRefused A.Refuses) }
 {
     let kind = head.kind.name();
     let len = head.len;
-    writeln!(text, "{kind} {len}")
+    A::append_text(text, format_args_nl!("{kind} {len}"))
 }
 
 /// Writes the text of tokens on a line, with the operator's words by their names.
-fn write_tokens<A: Allocator>(words: &Words, tokens: &[u8], text: &mut Vec<u8, A>) -> io::Result<()>
+fn write_tokens<A: Growth>(
+    words: &Words,
+    tokens: &[u8],
+    text: &mut Vec<u8, A>,
+) -> Result<(), AllocError>
     requires { length tokens.now % 2 ≡ 0 }
-    ensures { OnOk result (text.new.items ≡ text.old.items
+    ensures text { OnOk result (text.new.items ≡ text.old.items
         ++ line (printed (words_of words.now) (tokens_of tokens.now))) }
+    ensures refused { OnErr result (WasRefused A.Refuses) }
 {
-    write_text_with(words.names(), tokens, text)?;
-    text.write_all(b"\n")
+    append_tokens(words, tokens, text)?;
+    A::append(text, b"\n")
 }
 
 /// Writes a verdict, and the answer to the sender if there is one. Returns whether the message is relayed.
-fn write_verdict<A: Allocator + Copy>(
+fn write_verdict<A: Growth + Copy>(
     alloc: A,
     words: &Words,
     verdict: Verdict,
     body: &[u8],
     text: &mut Vec<u8, A>,
-) -> io::Result<bool>
+) -> Result<bool, AllocError>
     requires even { length body.now % 2 ≡ 0 }
     requires within { IsPlaceIn body.now verdict }
-    ensures { IfOk result (λ relayed.
+    ensures text { IfOk result (λ relayed.
         (text.new.items ≡ text.old.items ++ verdict_lines (words_of words.now) verdict body.now)
         × (relayed ≡ is_relay verdict)) }
+    ensures refused { OnErr result (WasRefused A.Refuses) }
 {
     match verdict {
         Verdict::Relay => {
-            text.write_all(b"relay\n")?;
+            A::append(text, b"relay\n")?;
             return Ok(true);
         }
-        Verdict::Prn => text.write_all(b"PRN\n")?,
-        Verdict::Huh(place) => writeln!(text, "HUH at {place}")?,
+        Verdict::Prn => A::append(text, b"PRN\n")?,
+        Verdict::Huh(place) => A::append_text(text, format_args_nl!("HUH at {place}"))?,
     }
     let answer = answer_of(alloc, verdict, body)?;
     write_tokens(words, answer.as_slice(), text)?;
@@ -89,20 +95,21 @@ fn write_verdict<A: Allocator + Copy>(
 }
 
 /// Writes the fault of a frame, and explains it if that is requested. Returns false.
-fn write_fault<A: Allocator>(
+fn write_fault<A: Growth>(
     is_explained: bool,
     code: Code,
     header: &[u8],
     body: &[u8],
     text: &mut Vec<u8, A>,
-) -> io::Result<bool>
+) -> Result<bool, AllocError>
     requires { length body.now ≤ longest_body }
-    ensures { IfOk result (λ relayed. WritesShown text.old.items text.new.items relayed
+    ensures text { IfOk result (λ relayed. WritesShown text.old.items text.new.items relayed
         (fault_shown code (lines_if is_explained (cause_lines code header.now body.now)))) }
+    ensures refused { OnErr result (WasRefused A.Refuses) }
 {
-    text.write_all(b"fault ")?;
-    text.write_all(&code.digits())?;
-    text.write_all(b"\n")?;
+    A::append(text, b"fault ")?;
+    A::append(text, &code.digits())?;
+    A::append(text, b"\n")?;
     if is_explained {
         write_cause(code, header, body, text)?;
     }
@@ -121,15 +128,16 @@ fn front(bytes: &[u8], count: usize) -> &[u8]
 }
 
 /// Writes the fault of the header or of the body in some bytes, and explains it if that is requested. Returns false.
-pub(super) fn write_bytes_fault<A: Allocator>(
+pub(super) fn write_bytes_fault<A: Growth>(
     is_explained: bool,
     code: Code,
     bytes: &[u8],
     text: &mut Vec<u8, A>,
-) -> io::Result<bool>
+) -> Result<bool, AllocError>
     requires { 4 ≤ length bytes.now }
-    ensures { IfOk result (λ relayed. WritesShown text.old.items text.new.items relayed
+    ensures text { IfOk result (λ relayed. WritesShown text.old.items text.new.items relayed
         (fault_shown code (lines_if is_explained (frame_fault_lines longest_body code bytes.now)))) }
+    ensures refused { OnErr result (WasRefused A.Refuses) }
 {
     let (header, rest) = bytes.split_at(4);
     let body = faulty_body(code, front(rest, usize::from(MAX_BODY)));
@@ -137,25 +145,27 @@ pub(super) fn write_bytes_fault<A: Allocator>(
 }
 
 /// Writes a valid frame that is not a message. Returns true.
-fn write_relayed<A: Allocator>(head: Head, text: &mut Vec<u8, A>) -> io::Result<bool>
-    ensures { IfOk result (λ relayed. WritesShown text.old.items text.new.items relayed (relayed_shown head.kind head.len)) }
+fn write_relayed<A: Growth>(head: Head, text: &mut Vec<u8, A>) -> Result<bool, AllocError>
+    ensures text { IfOk result (λ relayed. WritesShown text.old.items text.new.items relayed (relayed_shown head.kind head.len)) }
+    ensures refused { OnErr result (WasRefused A.Refuses) }
 {
     write_kind(head, text)?;
-    text.write_all(b"relay\n")?;
+    A::append(text, b"relay\n")?;
     Ok(true)
 }
 
 /// Writes an IM, or the fault of its body, which is explained if that is requested. Returns whether it is relayed.
-fn write_im<A: Allocator>(
+fn write_im<A: Growth>(
     is_explained: bool,
     head: Head,
     body: &[u8],
     text: &mut Vec<u8, A>,
-) -> io::Result<bool>
+) -> Result<bool, AllocError>
     requires im { head.kind ≡ Kind.Im }
     requires four { length body.now ≡ 4 }
-    ensures { IfOk result (λ relayed. WritesShown text.old.items text.new.items relayed
+    ensures text { IfOk result (λ relayed. WritesShown text.old.items text.new.items relayed
         (im_shown is_explained head.len body.now (im_of body.now))) }
+    ensures refused { OnErr result (WasRefused A.Refuses) }
 {
     match check_im([body[0], body[1], body[2], body[3]]) {
         Ok(()) => write_relayed(head, text),
@@ -164,18 +174,19 @@ fn write_im<A: Allocator>(
 }
 
 /// Writes the lines that explain a verdict, if the request includes an explanation.
-fn write_lines<A: Allocator + Copy>(
+fn write_lines<A: Growth + Copy>(
     alloc: A,
     request: &Request<'_>,
     verdict: Verdict,
     body: &[u8],
     text: &mut Vec<u8, A>,
-) -> io::Result<()>
+) -> Result<(), AllocError>
     requires capped { length body.now ≤ longest_body }
     requires verdict { HasVerdict (IsMessageOver (grammar_words (words_of request.now.words.now))
         (side2_of request.now.side) request.now.level) greatest_depth (tokens_of body.now) verdict }
-    ensures { OnOk result ((lines : List ℕ) × AreLines (request_of request.now) (tokens_of body.now) verdict lines
+    ensures text { OnOk result ((lines : List ℕ) × AreLines (request_of request.now) (tokens_of body.now) verdict lines
         × (text.new.items ≡ text.old.items ++ lines)) }
+    ensures refused { OnErr result (WasRefused A.Refuses) }
 {
     if !request.is_explained {
         return Ok(());
@@ -184,19 +195,20 @@ fn write_lines<A: Allocator + Copy>(
 }
 
 /// Writes a message and its verdict, and the explanation if the request includes one. Returns whether it is relayed.
-fn write_message<A: Allocator + Copy>(
+fn write_message<A: Growth + Copy>(
     alloc: A,
     request: &Request<'_>,
     head: Head,
     body: &[u8],
     text: &mut Vec<u8, A>,
-) -> io::Result<bool>
+) -> Result<bool, AllocError>
     requires dm { head.kind ≡ Kind.Dm }
     requires even { length body.now % 2 ≡ 0 }
     requires capped { length body.now ≤ longest_body }
-    ensures { IfOk result (λ relayed. (shown : Shown)
+    ensures text { IfOk result (λ relayed. (shown : Shown)
         × IsMessageShownAs (request_of request.now) head.len body.now shown
         × WritesShown text.old.items text.new.items relayed shown) }
+    ensures refused { OnErr result (WasRefused A.Refuses) }
 {
     let verdict = verdict_of(&rules_of(request), body);
     write_kind(head, text)?;
@@ -207,18 +219,19 @@ fn write_message<A: Allocator + Copy>(
 }
 
 /// Writes a complete frame and its verdict. Returns whether it would be relayed.
-pub(super) fn write_frame<A: Allocator + Copy>(
+pub(super) fn write_frame<A: Growth + Copy>(
     alloc: A,
     request: &Request<'_>,
     head: Head,
     body: &[u8],
     text: &mut Vec<u8, A>,
-) -> io::Result<bool>
+) -> Result<bool, AllocError>
     requires right { has_right_length head.kind (length body.now) ≡ true }
     requires capped { length body.now ≤ longest_body }
-    ensures { IfOk result (λ relayed. (shown : Shown)
+    ensures text { IfOk result (λ relayed. (shown : Shown)
         × IsFrameShownAs (request_of request.now) head.kind head.len body.now shown
         × WritesShown text.old.items text.new.items relayed shown) }
+    ensures refused { OnErr result (WasRefused A.Refuses) }
 {
     match head.kind {
         Kind::Im => write_im(request.is_explained, head, body, text),

@@ -5,9 +5,9 @@ use Rattle.daide_explain.proofs.listed.append_codes.Goals as goal
 pub loop-code-preserved : goal.loop-code-preserved
 loop-code-preserved g c = λ done h.
     one_more_at _ done c.args.codes.now c.loop-code.code-index _ _ _ c.loop-code-test.true c.from_code.ensures
-    (c.loop-code.invariant done h) c.in_ok-append_if_expected.ensures
+    (c.loop-code.invariant done h) c.in_ok-append_if_expected.ensures.appended
 
-pub returns : goal.returns
-returns g c = λ done h.
+pub returns-clause-filtered : goal.returns-clause-filtered
+returns-clause-filtered g c = λ done h.
     all_taken _ done c.args.codes.now c.loop-code.code-index _ (let over = c.loop-code-test.false in omega arith)
     (c.loop-code.invariant done h)

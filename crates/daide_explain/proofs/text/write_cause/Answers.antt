@@ -3,8 +3,8 @@ use Rattle.daide_explain.proofs.Common.{grammar_words, words_of, tokens_of-front
 use Rattle.daide_explain.specs.Explained.{IsExpectedLine}
 use Rattle.daide_explain.proofs.text.write_cause.Goals as goal
 
-pub returns : goal.returns
-returns g c =
+pub returns-clause-text : goal.returns-clause-text
+returns-clause-text g c =
     let words = words_of c.args.rules.now.words.now in
     let b = c.args.body.now in
     on_ok_weaker c.write_expected.result
@@ -21,4 +21,4 @@ returns g c =
       ),
       w.2,
     ))
-    c.write_expected.ensures
+    c.write_expected.ensures.text

@@ -3,8 +3,8 @@ use Rattle.daide_explain.proofs.Common.{tokens_of, Side2, grammar_words, words_o
 use Rattle.daide_explain.specs.LowestLevel.{IsRelayedAt}
 use Rattle.daide_explain.proofs.text.write_elsewhere.Goals as goal
 
-pub returns : goal.returns
-returns g c =
+pub returns-clause-text : goal.returns-clause-text
+returns-clause-text g c =
     let words = words_of c.args.rules.now.words.now in
     let m = tokens_of c.args.body.now in
     let least = c.lowest_level-least.result in
@@ -20,7 +20,7 @@ returns g c =
             c.is_relayed-is_other.ensures,
         refl,
       ),
-      e ∙ (ap (λ (l : List ℕ). l ++ side_line c.args.rules.now.end other) c.in_ok-write_level.ensures
+      e ∙ (ap (λ (l : List ℕ). l ++ side_line c.args.rules.now.end other) c.in_ok-write_level.ensures.text
           ∙ append_assoc c.args.text.now.items (level_line least) (side_line c.args.rules.now.end other)),
     ))
-    c.write_side.ensures
+    c.write_side.ensures.text

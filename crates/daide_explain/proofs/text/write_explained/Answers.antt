@@ -17,30 +17,30 @@ write_place-requires-clause-plain g c =
     (subst (HasVerdict (IsMessageOver words c.args.rules.now.end c.args.rules.now.level) c.args.rules.now.max_depth (tokens_of c.args.body.now))
     c.in-Huh.is c.requires.verdict))
 
-pub returns-in-Relay : goal.returns-in-Relay
-returns-in-Relay g c =
+pub returns-in-Relay-clause-text : goal.returns-in-Relay-clause-text
+returns-in-Relay-clause-text g c =
     let same = sym c.in-Relay.is in (
       [],
       subst (λ (v : Verdict). IsExplained (words_of c.args.rules.now.words.now) c.args.rules.now.end c.args.rules.now.level c.args.rules.now.max_depth (tokens_of c.args.body.now) v []) same refl,
       sym (append-nil c.args.text.now.items),
     )
 
-pub returns-in-Prn : goal.returns-in-Prn
-returns-in-Prn g c =
+pub returns-in-Prn-clause-text : goal.returns-in-Prn-clause-text
+returns-in-Prn-clause-text g c =
     on_ok_weaker c.write_unpaired.result
     (λ w. (
       w.0,
       subst (λ (v : Verdict). IsExplained (words_of c.args.rules.now.words.now) c.args.rules.now.end c.args.rules.now.level c.args.rules.now.max_depth (tokens_of c.args.body.now) v w.0) (sym c.in-Prn.is) w.1,
       w.2,
     ))
-    c.write_unpaired.ensures
+    c.write_unpaired.ensures.text
 
-pub returns-in-Huh : goal.returns-in-Huh
-returns-in-Huh g c =
+pub returns-in-Huh-clause-text : goal.returns-in-Huh-clause-text
+returns-in-Huh-clause-text g c =
     on_ok_weaker c.write_place.result
     (λ w. (
       w.0,
       subst (λ (v : Verdict). IsExplained (words_of c.args.rules.now.words.now) c.args.rules.now.end c.args.rules.now.level c.args.rules.now.max_depth (tokens_of c.args.body.now) v w.0) (sym c.in-Huh.is) w.1,
       w.2,
     ))
-    c.write_place.ensures
+    c.write_place.ensures.text

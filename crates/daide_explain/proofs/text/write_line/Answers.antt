@@ -4,16 +4,16 @@ use Rattle.daide_explain.proofs.Items.{end_there, nothing_line, some_line, three
 use Rattle.daide_explain.proofs.text.write_line.Goals as goal
 use Rattle.daide_explain.proofs.text.write_line.Goals.{else-is_empty-via-then-is_empty+else-not-ends, else-is_empty-via-else-is_empty}
 
-pub returns-then-not-ends : goal.returns-then-not-ends
-returns-then-not-ends g c =
-    on_ok_weaker c.writeln.result
+pub returns-then-not-ends-clause-text : goal.returns-then-not-ends-clause-text
+returns-then-not-ends-clause-text g c =
+    on_ok_weaker c.append_text.result
     (λ e. e ∙ ap (λ (l : List ℕ). c.args.text.now.items ++ l)
     (sym (nothing_line (words_of c.args.rules.now.words.now) (tokens_of c.args.before.now) c.args.tokens.now c.args.ends
     c.open_before-open.result c.if-is_empty.ensures c.if-not-ends.true c.open_before-open.ensures)))
-    c.writeln.ensures.bytes
+    c.append_text.ensures.appended
 
-pub returns : goal.returns
-returns g c =
+pub returns-clause-text : goal.returns-clause-text
+returns-clause-text g c =
     let words = words_of c.args.rules.now.words.now in
     let p = tokens_of c.args.before.now in
     let ts = c.args.tokens.now in
@@ -24,6 +24,6 @@ returns g c =
     ] in
     on_ok_weaker c.write_end.result
     (λ e. three c.args.text.now.items (codes "expected:") (class_items words ts) (end_item ends) _ _ _
-    c.in_ok-write_all.ensures.bytes c.in_ok-write_classes.ensures e
+    c.in_ok-append.ensures.appended c.in_ok-write_classes.ensures.text e
     ∙ ap (λ (l : List ℕ). c.args.text.now.items ++ l) (sym (some_line words p ts ends test)))
-    c.write_end.ensures
+    c.write_end.ensures.text

@@ -10,13 +10,13 @@ returns-in-Ok-eq0-clause-line g c =
     let at_end = c.in-Ok-eq0.ensures.bytes.1 c.in-Ok-eq0.field-0-test (search rules) in
     elim c.if-is_empty.branch [
       | then-is_empty w ↦ rw w.result-is (no_line (g.R.Read.remaining c.args.reader.now)
-          (g.R.Read.remaining c.loop-count.reader) (g.R.Read.remaining c.read.new.self) c.loop-count.line.items
+          (g.R.Read.remaining c.loop-count.reader) (g.R.Read.remaining c.read_some.new.self) c.loop-count.line.items
           c.loop-count.invariant.given nothing at_end
           (omega (arith, c.loop-count.line.ok.0, eqb-true c.loop-count.line.len 0 (sym c.is_empty.ensures ∙ w.if-is_empty.true))))
       | else-is_empty w ↦ rw w.result-is (
         omega (arith, c.loop-count.invariant.counted, c.loop-count-test.true),
         line_last (g.R.Read.remaining c.args.reader.now)
-            (g.R.Read.remaining c.loop-count.reader) (g.R.Read.remaining c.read.new.self) c.loop-count.line.items
+            (g.R.Read.remaining c.loop-count.reader) (g.R.Read.remaining c.read_some.new.self) c.loop-count.line.items
             c.loop-count.invariant.given nothing at_end
             (omega (arith, c.loop-count.line.ok.0, eqb-false c.loop-count.line.len 0 (sym c.is_empty.ensures ∙ w.if-is_empty.false))) c.loop-count.invariant.unbroken,
       )
@@ -26,8 +26,8 @@ pub returns-then-piece-eq10-clause-line : goal.returns-then-piece-eq10-clause-li
 returns-then-piece-eq10-clause-line g c = (
   omega (arith, c.loop-count.invariant.counted, c.loop-count-test.true),
   line_ended (g.R.Read.remaining c.args.reader.now) (g.R.Read.remaining c.loop-count.reader)
-      (g.R.Read.remaining c.read.new.self) c.loop-count.line.items 10 c.loop-count.invariant.given
-      (rw (byte_read c.in-Ok.field-0 c.read.new.buf 10 (search rules) (search rules) (search rules)) at c.in-Ok.ensures.bytes.0)
+      (g.R.Read.remaining c.read_some.new.self) c.loop-count.line.items 10 c.loop-count.invariant.given
+      (rw (byte_read c.in-Ok.field-0 c.read_some.new.buffer 10 (search rules) (search rules) (search rules)) at c.in-Ok.ensures.bytes.0)
       refl c.loop-count.invariant.unbroken,
 )
 

@@ -6,20 +6,20 @@ use Rattle.daide_show.proofs.frame_view.input.read_input.Goals as goal
 pub returns-in-Ok-eq0-clause-whole : goal.returns-in-Ok-eq0-clause-whole
 returns-in-Ok-eq0-clause-whole g c =
     whole_input _ (g.R.Read.remaining c.loop-turn.reader)
-    (g.R.Read.remaining c.read.new.self) _ c.loop-turn.invariant.given
+    (g.R.Read.remaining c.read_some.new.self) _ c.loop-turn.invariant.given
     (rw c.in-Ok-eq0.field-0-test at c.in-Ok-eq0.ensures.bytes.0)
     (c.in-Ok-eq0.ensures.bytes.1 c.in-Ok-eq0.field-0-test (search rules))
 
 pub returns-then-count-len-clause-too_long : goal.returns-then-count-len-clause-too_long
 returns-then-count-len-clause-too_long g c _ =
-    longer_input _ (g.R.Read.remaining c.loop-turn.reader) (g.R.Read.remaining c.read.new.self) c.loop-turn.input.items
-    (take c.in-Ok.count c.read.new.buf) limit
+    longer_input _ (g.R.Read.remaining c.loop-turn.reader) (g.R.Read.remaining c.read_some.new.self) c.loop-turn.input.items
+    (take c.in-Ok.count c.read_some.new.buffer) limit
     c.loop-turn.invariant.given c.in-Ok.ensures.bytes.0
     (omega (arith, c.in-Ok.ensures.bound.1, c.len.ensures, c.loop-turn.input.ok.0))
 
 pub returns-then-count-len-clause-read : goal.returns-then-count-len-clause-read
 returns-then-count-len-clause-read g c =
-    let piece = take c.in-Ok.count c.read.new.buf in (
+    let piece = take c.in-Ok.count c.read_some.new.buffer in (
       c.loop-turn.input.items ++ piece,
       read_more _ (g.R.Read.remaining c.loop-turn.reader)
           _ c.loop-turn.input.items piece c.loop-turn.invariant.given c.in-Ok.ensures.bytes.0,
@@ -28,21 +28,21 @@ returns-then-count-len-clause-read g c =
         length-append c.loop-turn.input.items piece,
         c.in-Ok.ensures.bound.0,
         c.in-Ok.ensures.bound.1,
-        c.read.auto.buf,
+        c.read_some.auto.buffer,
         front_few c.min-room.result c.loop-turn.piece,
       ),
     )
 
 pub returns-in_default-clause-read : goal.returns-in_default-clause-read
 returns-in_default-clause-read g c =
-    let piece = take c.in-Ok.count c.read.new.buf in (
+    let piece = take c.in-Ok.count c.read_some.new.buffer in (
       c.loop-turn.input.items ++ piece,
       read_more _ (g.R.Read.remaining c.loop-turn.reader)
           _ c.loop-turn.input.items piece c.loop-turn.invariant.given c.in-Ok.ensures.bytes.0,
       omega (
         arith,
         length-append c.loop-turn.input.items piece,
-        length-take-le c.in-Ok.count c.read.new.buf c.in-Ok.ensures.bound.0,
+        length-take-le c.in-Ok.count c.read_some.new.buffer c.in-Ok.ensures.bound.0,
       ),
     )
 
@@ -56,7 +56,7 @@ returns-in-Ok-eq0-clause-fits g c = c.loop-turn.invariant.fits
 pub returns-in-Ok-eq0-clause-read : goal.returns-in-Ok-eq0-clause-read
 returns-in-Ok-eq0-clause-read g c = (
   c.loop-turn.input.items,
-  none_more _ (g.R.Read.remaining c.loop-turn.reader) (g.R.Read.remaining c.read.new.self) c.loop-turn.input.items
+  none_more _ (g.R.Read.remaining c.loop-turn.reader) (g.R.Read.remaining c.read_some.new.self) c.loop-turn.input.items
       c.loop-turn.invariant.given (rw c.in-Ok-eq0.field-0-test at c.in-Ok-eq0.ensures.bytes.0),
   omega (arith, c.loop-turn.invariant.fits),
 )
@@ -70,14 +70,14 @@ unreachable-requires g c =
 pub returns-in-Err-clause-read : goal.returns-in-Err-clause-read
 returns-in-Err-clause-read g c = (
   c.loop-turn.input.items,
-  kept_more _ (g.R.Read.remaining c.loop-turn.reader) (g.R.Read.remaining c.read.new.self) c.loop-turn.input.items
+  kept_more _ (g.R.Read.remaining c.loop-turn.reader) (g.R.Read.remaining c.read_some.new.self) c.loop-turn.input.items
       c.loop-turn.invariant.given c.in-Err.ensures.bytes,
   omega (arith, c.loop-turn.invariant.fits),
 )
 
 pub loop-turn-preserved : goal.loop-turn-preserved
 loop-turn-preserved g c =
-    turn_more _ (g.R.Read.remaining c.loop-turn.reader) (g.R.Read.remaining c.read.new.self) c.loop-turn.input.items
-    c.read.new.buf _ c.extend_from_slice.new.self.items c.in-Ok.count c.loop-turn._turn c.loop-turn.invariant
-    c.in-Ok.ensures.bytes.0 c.in-Ok-extend_from_slice.ensures.items c.in-Ok.ensures.bound.0 (omega arith)
+    turn_more _ (g.R.Read.remaining c.loop-turn.reader) (g.R.Read.remaining c.read_some.new.self) c.loop-turn.input.items
+    c.read_some.new.buffer _ c.append.new.list.items c.in-Ok.count c.loop-turn._turn c.loop-turn.invariant
+    c.in-Ok.ensures.bytes.0 c.in-Ok-append.ensures.appended c.in-Ok.ensures.bound.0 (omega arith)
     (omega (arith, c.len-in-loop-turn.ensures, c.loop-turn.input.ok.0))

@@ -16,9 +16,9 @@ unchecked asked Dm len body (inl e) = absurd cc
 unchecked asked Dm len body (inr (inl e)) = absurd cc
 unchecked asked Dm len body (inr (inr e)) = absurd cc
 
-pub returns-in-Rm : goal.returns-in-Rm
-returns-in-Rm g c =
-    if_ok-more c.write_relayed.result _ _ c.write_relayed.ensures
+pub returns-in-Rm-clause-text : goal.returns-in-Rm-clause-text
+returns-in-Rm-clause-text g c =
+    if_ok-more c.write_relayed.result _ _ c.write_relayed.ensures.text
     (λ relayed wrote. (
       relayed_shown c.args.head.kind c.args.head.len,
       unchecked (request_of c.args.request.now) c.args.head.kind c.args.head.len c.args.body.now c.in-Rm.is,

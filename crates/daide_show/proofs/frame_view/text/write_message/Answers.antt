@@ -24,16 +24,16 @@ ruled words asked end side level at depth most m verdict w e l d has =
     (subst (λ (x : Level). HasVerdict (IsMessageOver (grammar_words (words_of words)) end x) most m verdict) l
     (subst (λ (x : ℕ). HasVerdict (IsMessageOver (grammar_words (words_of words)) end level) x m verdict) d has)))
 
-pub returns : goal.returns
-returns g c =
+pub returns-clause-text : goal.returns-clause-text
+returns-clause-text g c =
     let body = c.args.body.now in
     let verdict = c.verdict_of-verdict.result in
     let old = c.args.text.now.items in
     let len = c.args.head.len in
     let words = words_of c.args.request.now.words.now in
     let answer = verdict_lines words verdict body in
-    let lines = c.in_ok-write_lines.ensures in
-    let wrote = c.in_ok-relayed.ensures in
+    let lines = c.in_ok-write_lines.ensures.text in
+    let wrote = c.in_ok-relayed.ensures.text in
     let rules = c.rules_of.ensures in
     let tokens = line (printed words (tokens_of body)) in (
       message_shown words len body verdict lines.0,
@@ -46,8 +46,8 @@ returns g c =
         refl,
       ),
       (
-        joined old (kind_line c.args.head.kind len) tokens answer lines.0 _ _ _ _ c.in_ok-write_kind.ensures
-            c.in_ok-write_tokens.ensures wrote.0 lines.2
+        joined old (kind_line c.args.head.kind len) tokens answer lines.0 _ _ _ _ c.in_ok-write_kind.ensures.text
+            c.in_ok-write_tokens.ensures.text wrote.0 lines.2
             ∙ ap (λ (kind : Kind). old ++ (((kind_line kind len ++ tokens) ++ answer) ++ lines.0)) c.requires.dm,
         wrote.1,
       ),

@@ -1,0 +1,136 @@
+"""The control socket of a run at its limits: other users, hung bots, suspended runs, and many sessions.
+
+The expected texts are worked out from docs/FORMATS.md and docs/OPERATING.md. Each wait is bounded.
+"""
+
+import json
+import os
+import signal
+import subprocess
+
+from acts import fill_queue
+from addresses import settings_of
+from control import SECONDS, Match, address, fills, rest, settled
+from held import NotPlayed, Wrong, same
+from runs import NOBODY
+from stage import HOST, free_port
+
+# Sessions whose status is longer than 65,536 bytes.
+MANY = 150
+
+# The time for which `status` waits for an answer, in seconds.
+SILENCE = 5
+
+
+def socket_of_another_user_is_not_replaced(program):
+    """A run of another user can't connect to the socket of a run, and doesn't take its path, although its folder is open
+    to all."""
+    if os.geteuid() != 0:
+        raise NotPlayed("this needs to be root")
+    with Match(program, "sessions = 4") as match:
+        match.room.chmod(0o777)
+        other = match.room / "other.toml"
+        text = settings_of(f"{HOST}:{free_port()}", f"{HOST}:1", f"control = '{match.control}'\n")
+        other.write_text(text, encoding="utf-8")
+        other.chmod(0o644)
+        done = subprocess.run([*match.program, "run", "--verbose", str(other)], capture_output=True, text=True, check=False,
+                              timeout=SECONDS, **NOBODY)
+        told = f"daide-gate: cannot listen\ndaide-gate: control {match.control}: address in use\n"
+        same((done.stdout, done.stderr, done.returncode), ("", told, 1), "a run of another user")
+        same(json.loads(match.status("json"))["open"], 0, "sessions of the first run")
+
+
+def endless_run_removes_its_socket(program):
+    """A run that is stopped leaves no file of its control socket."""
+    with Match(program, "endless = true") as match:
+        same(match.asks(b"stop\n"), b"", "answer to the stop")
+        same((match.ended(), os.path.exists(match.control)), ((0, ""), False), "the run, and whether the socket is there")
+
+
+def seconds_of(text):
+    """Returns the seconds of a status as JSON: since the run began, and since each side of its session sent a byte."""
+    found = json.loads(text)
+    return [found["seconds"], *found["sessions"][0]["idle_seconds"].values()]
+
+
+def status_counts_seconds(program):
+    """The seconds since the run began, and those of silence, in each form."""
+    with Match(program, "endless = true") as match:
+        match.opens()
+        first = seconds_of(settled(match, "json", lambda text: min(seconds_of(text)) >= 1))
+        head, *_, row = match.status().splitlines()
+        table = [int(word) for word in (head.split()[-2], *row.split()[-4:-2])]
+        metrics = [int(line.split()[-1]) for line in match.status("prometheus").splitlines()
+                   if line.startswith(("daide_gate_up_seconds", "daide_gate_session_idle_seconds"))]
+        last = seconds_of(match.status("json"))
+        if not all(one <= two <= three <= four for one, two, three, four in zip(first, table, metrics, last, strict=True)):
+            raise Wrong(f"the seconds are {first}, then {table}, {metrics} and {last}")
+
+
+def status_beside_a_hung_bot_after_stop_now(program):
+    """A bot that reads nothing has its place after its session is over, and the run answers meanwhile."""
+    with Match(program, "endless = true\nstall_seconds = 0") as match:
+        bot, server = match.opens()
+        fills(server)
+        settled(match, "json", lambda text: json.loads(text)["sessions"][0]["queued"]["bot"])
+        with match.client() as client:
+            client.sendall(b"stop now\n")
+            found = json.loads(settled(match, "json", lambda text: '"phase":"over"' in text))
+            same((found["open"], found["stopping"]), (1, True), "the run")
+            same([row["bot"] for row in found["sessions"]], [address(bot)], "its sessions")
+            bot.close()
+            server.close()
+            same(rest(client), b"", "answer to the stop")
+        same(match.ended(), (0, ""), "the run")
+
+
+def stop_now_beside_a_connect_blames_no_server(program):
+    """A bot whose connect is pending gets the end, and nothing is logged of a server that can't be reached."""
+    with Match(program, "endless = true") as match:
+        match.listener.listen(0)
+        fill_queue(match.listener)
+        bot = match.connects()
+        settled(match, "table", lambda text: text.startswith("0 open, 1 connecting, "))
+        same(match.asks(b"stop now\n"), b"", "answer to the stop")
+        rest(bot)
+        same(match.ended(), (0, ""), "the run")
+
+
+def suspended_run_is_waited_for_five_seconds(program):
+    """A run that is stopped by a signal answers nothing. A status is given up after its time, and a stop after its
+    timeout."""
+    with Match(program, "endless = true") as match:
+        match.process.send_signal(signal.SIGSTOP)
+        printed, told, status, seconds = match.command("status", str(match.settings))
+        same((printed, told, status), ("", f"daide-gate: {match.control}: no answer\n", 1), "the status")
+        if seconds < SILENCE:
+            raise Wrong(f"the status took {seconds:.1f} s")
+        stopped = match.command("stop", "--timeout", "1", str(match.settings))
+        same(stopped[:3], ("", f"daide-gate: {match.control}: still running\n", 1), "the stop")
+
+
+def status_shows_150_sessions(program):
+    """Each form has each session, in order."""
+    with Match(program, f"max_sessions = {MANY}\nsessions = {MANY}") as match:
+        bots = [address(match.opens()[0]) for _ in range(MANY)]
+        wanted = [(number, bot) for number, bot in enumerate(bots, 1)]
+        rows = [line.split() for line in match.status().splitlines()[3:]]
+        same([(int(row[0]), row[-1]) for row in rows], wanted, "the table")
+        rows = json.loads(match.status("json"))["sessions"]
+        same([(row["session"], row["bot"]) for row in rows], wanted, "the document")
+        text = match.status("prometheus")
+        levels = [line for line in text.splitlines() if line.startswith("daide_gate_session_level{")]
+        same(levels, [f'daide_gate_session_level{{session="{number}",bot="{bot}",phase="open"}} 0' for number, bot in wanted],
+             "the metric")
+        same(len(text) > 65_536, True, "more than 65,536 bytes")
+
+
+TESTS = [
+    socket_of_another_user_is_not_replaced,
+    endless_run_removes_its_socket,
+    status_counts_seconds,
+    status_beside_a_hung_bot_after_stop_now,
+    stop_now_beside_a_connect_blames_no_server,
+    suspended_run_is_waited_for_five_seconds,
+    status_shows_150_sessions,
+]
