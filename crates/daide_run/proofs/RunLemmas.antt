@@ -11,7 +11,7 @@ use Rattle.daide_event_loop.specs.Served.{IsWholeRun}
 use Rattle.daide_event_loop.specs.Serving.{GivesUp}
 use Rattle.daide_io.specs.Streams.{StreamCall}
 use Rattle.daide_sockets.specs.Lingering.{ClosingList, no_closing}
-use Rattle.daide_sockets.specs.Pairing.{Arriving, Paired, RunSockets, Transits, pending_in}
+use Rattle.daide_sockets.specs.Pairing.{Arriving, Paired, RunSockets, Transits, pending_connects}
 use Rattle.daide_sockets.specs.Times.{IsIdleTime}
 use Rattle.daide_run.specs.declared.gateway.GatewayFault.TheVariants as gateway_faults
 use Rattle.daide_run.specs.declared.running.RunFault.{RunFault}
@@ -36,7 +36,7 @@ ran_on transition port_transition settings failed before after begun last (Err f
 
 -- sockets to which no bot came, part by part
 pub none_yet : {S : Type 0} (seconds : ℕ) (time : Option Duration) (came : ℕ) (arrivals : List (Option (Arriving S)))
-    (closing : ClosingList S) → IsIdleTime seconds time → came ≡ 0 → pending_in arrivals ≡ 0 → closing ≡ no_closing time →
+    (closing : ClosingList S) → IsIdleTime seconds time → came ≡ 0 → pending_connects arrivals ≡ 0 → closing ≡ no_closing time →
     HasNoSockets seconds (record { came = came; arrivals = arrivals; closing = closing })
 none_yet seconds time came arrivals closing idle e f g = (time, idle, e, f, g)
 
