@@ -1,9 +1,13 @@
 -- How a run ends, by the calls that the loop made of a system over sockets.
-use Rattle.std.proofs.Common.{◌≡◌, ℕ, List, [], ◌∷◌, Option, None, Some, Result, Ok, Err, inl, inr, ap, sym, subst}
-use Rattle.std.specs.Prelude.{IfSome}
+use Rattle.std.proofs.Common.{◌≡◌, ℕ, zero, suc, ◌+◌, ◌*◌, List, [], ◌∷◌, Option, None, Some, Result, Ok, Err, inl, inr, ap, sym, subst}
+use Rattle.std.proofs.Common.{refl, ◌∙◌}
+use Rattle.std.proofs.lemmas.List.{length-replicate}
+use Rattle.std.specs.Prelude.{IfSome, replicate}
 use Rattle.std.specs.Result.{OnOk, IfErr}
 use Rattle.std.specs.declared.time.Duration.{Duration}
+use Rattle.std.specs.declared.time.Instant.{Instant}
 use Rattle.daide_io.specs.Ports.{PortCall}
+use Rattle.daide_io.specs.ReadyQueue.{one_if}
 use Rattle.daide_io.specs.System.{SystemCall, TransitsBy}
 use Rattle.daide_settings.specs.declared.settings.Settings.{Settings}
 use Rattle.daide_event_loop.specs.declared.serving.ServeFault.{ServeFault}
@@ -11,7 +15,9 @@ use Rattle.daide_event_loop.specs.Served.{IsWholeRun}
 use Rattle.daide_event_loop.specs.Serving.{GivesUp}
 use Rattle.daide_io.specs.Streams.{StreamCall}
 use Rattle.daide_sockets.specs.Lingering.{ClosingList, no_closing}
-use Rattle.daide_sockets.specs.Pairing.{Arriving, Paired, RunSockets, Transits, pending_in}
+use Rattle.daide_sockets.specs.Pairing.{Arriving, Paired, RunSockets, Transits, pending_connects}
+use Rattle.daide_sockets.specs.Rows.{AreRowsOf}
+use Rattle.daide_sockets.specs.Table.{Table, free_row, new_table, row_at}
 use Rattle.daide_sockets.specs.Times.{IsIdleTime}
 use Rattle.daide_run.specs.declared.gateway.GatewayFault.TheVariants as gateway_faults
 use Rattle.daide_run.specs.declared.running.RunFault.{RunFault}
@@ -34,9 +40,24 @@ ran_on transition port_transition settings failed before after begun last (Ok do
 ran_on transition port_transition settings failed before after begun last (Err fault) said whole given_up =
     (said, last, given_up.0, given_up.1, given_up.2)
 
+-- a row among free rows is not taken
+free_there : (count key : ℕ) → one_if (row_at (replicate count free_row) key).is_taken ≡ 0
+free_there zero key = refl
+free_there (suc count) zero = refl
+free_there (suc count) (suc key) = free_there count key
+
+-- no row of a new table is taken
+pub none_taken : (table : Table) (places : ℕ) → table ≡ new_table places 256 → AreRowsOf table []
+none_taken table places e = subst (λ (t : Table). AreRowsOf t []) (sym e) (record {
+  taken = λ key. free_there (2 * places + 6 + 256) key;
+  beyond = λ key lt. refl;
+  count = length-replicate (2 * places + 6 + 256) free_row
+      ∙ sym (ap (λ (n : ℕ). 2 * n + 6 + 256) (length-replicate {A = Option Instant} places None));
+})
+
 -- sockets to which no bot came, part by part
 pub none_yet : {S : Type 0} (seconds : ℕ) (time : Option Duration) (came : ℕ) (arrivals : List (Option (Arriving S)))
-    (closing : ClosingList S) → IsIdleTime seconds time → came ≡ 0 → pending_in arrivals ≡ 0 → closing ≡ no_closing time →
+    (closing : ClosingList S) → IsIdleTime seconds time → came ≡ 0 → pending_connects arrivals ≡ 0 → closing ≡ no_closing time →
     HasNoSockets seconds (record { came = came; arrivals = arrivals; closing = closing })
 none_yet seconds time came arrivals closing idle e f g = (time, idle, e, f, g)
 

@@ -16,7 +16,7 @@ use Rattle.daide_event_loop.specs.Serving.{GivesUp}
 use Rattle.daide_io.specs.Streams.{StreamCall}
 use Rattle.daide_sockets.specs.Addresses.{MayBeUnknown}
 use Rattle.daide_sockets.specs.Lingering.{no_closing}
-use Rattle.daide_sockets.specs.Pairing.{Paired, RunSockets, Transits, pending_in}
+use Rattle.daide_sockets.specs.Pairing.{Paired, RunSockets, Transits, pending_connects}
 use Rattle.daide_sockets.specs.Times.{IsIdleTime}
 use Rattle.daide_run.specs.Gateway.{Announces}
 use Rattle.daide_run.specs.declared.gateway.GatewayFault.TheVariants as gateway_faults
@@ -28,7 +28,7 @@ use Rattle.daide_run.specs.declared.running.RunFault.TheVariants as run_faults
 -- to take bytes
 abbrev pub HasNoSockets : {S : Type 0} → ℕ → RunSockets S → Type 0
 HasNoSockets stall_seconds sockets = (time : Option Duration) × IsIdleTime stall_seconds time
-    × (sockets.came ≡ 0) × (pending_in sockets.arrivals ≡ 0) × (sockets.closing ≡ no_closing time)
+    × (sockets.came ≡ 0) × (pending_connects sockets.arrivals ≡ 0) × (sockets.closing ≡ no_closing time)
 
 -- The sockets of a run began with none, and this property holds for the trace of their system calls.
 abbrev pub RunsBy : {P S : Type 0} → (S → Option (List ℕ)) → (S → Option (List ℕ)) →

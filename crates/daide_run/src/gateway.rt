@@ -102,6 +102,7 @@ fn add_control<R: Files + Clock + Net>(
 
 /// Looks up the addresses of the settings, listens at one, and creates the table of sockets. Then binds the control
 /// socket, if the settings have one. Serves no bot yet.
+#[tactic(auto, using(crate::proofs::RunLemmas::none_taken))]
 pub fn bind<'r, R: AllocGlobal + Files + Clock + Net>(
     rt: &'r R,
     settings: &Settings,
