@@ -1,8 +1,10 @@
 -- The result of a connect: its place rests, or its ports begin, or its bot is given up.
-use Rattle.std.proofs.Common.{◌≡◌, ℕ, ◌<◌, Bool, true, false, List, Option, Some, None, length, refl, sym, ap, ◌∙◌, subst}
-use Rattle.std.specs.Prelude.{◌||◌, IfSome, IsSome, option_map}
+use Rattle.std.proofs.Common.{◌≡◌, ℕ, ◌+◌, ◌*◌, ◌<◌, ◌≤◌, Bool, true, false, List, Option, Some, None, length, refl, sym, ap, ◌∙◌, subst, arith}
+use Rattle.std.proofs.Math.Nat.{min-eq_left}
+use Rattle.std.specs.Prelude.{◌||◌, IfSome, IsSome, min, option_map}
 use Rattle.daide_sockets.specs.declared.socket.Socket.{Socket}
 use Rattle.std.specs.declared.time.Instant.{Instant}
+use Rattle.daide_frame.specs.declared.side.Side.{Side}
 use Rattle.daide_frame.specs.declared.side.Side.TheVariants.{Bot, Server}
 use Rattle.daide_buffered_io.specs.declared.readiness.Readiness.{Readiness}
 use Rattle.daide_sockets.specs.Accepting.{may_connect}
@@ -12,6 +14,12 @@ use Rattle.daide_sockets.specs.Scheduling.{RestsForConnect}
 use Rattle.daide_sockets.specs.Table.{Table, deadline_at, key_of, merged, report_at, resting}
 use Rattle.daide_sockets.specs.Times.{is_past}
 use Rattle.daide_sockets.proofs.KeptRowLemmas.{rests_until, same_deadlines}
+
+-- the key of a row of a place that has both
+pub key_fits : (place most key : ℕ) (side : Side) → key ≡ min (key_of place side) most → key_of place Server ≤ most →
+    key ≡ key_of place side
+key_fits place most key Bot is le = is ∙ min-eq_left {n = 2 * place} {m = most} (omega (arith, le))
+key_fits place most key Server is le = is ∙ min-eq_left {n = 2 * place + 1} {m = most} le
 
 module _ {S : Type 0} where
   -- nothing happens to a place without a pending connect
