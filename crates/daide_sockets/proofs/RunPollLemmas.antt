@@ -248,7 +248,7 @@ module _ {N C S : Type 0} (transition : N → NetworkCall C → N → Type 0) (t
             deadline = deadline_kept place ∙ asleep.0.deadline ∙ ap (λ (t : Table). deadline_at t place) same_watched;
           },
           ap (λ (d : Option Instant). is_past last.reading d) (deadline_kept place)
-          ∙ ap (λ (r : Option Instant). is_past r (deadline_at polled place)) last_reading ∙ asleep.1,
+              ∙ ap (λ (r : Option Instant). is_past r (deadline_at polled place)) last_reading ∙ asleep.1,
         );
   }
 

@@ -88,7 +88,7 @@ returns-then-advances-clause-transition g c =
         rests_for old.poller.table c.advances.new.poller.table c.rest.new.self c.args.place c.server_key.result c.in-Some.arrival
             later c.due.result (arrival_at new c.args.place)
             (there_again old.arrivals.items c.take_arrival.new.self.arrivals.items new c.args.place c.in-Some.arrival later out
-                c.put_arrival.ensures.put)
+            c.put_arrival.ensures.put)
             key table c.rest.ensures c.due.ensures c.advances.ensures.goes_on early
             (c.advances.ensures.still c.if-advances.true),
       ),
