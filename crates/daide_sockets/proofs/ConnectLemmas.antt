@@ -53,7 +53,7 @@ module _ {S : Type 0} where
   pub connected_joins : (arrival later : Arriving S) (pair : Paired S) → (IsSome later.server → later ≡ record arrival { known = later.known }) →
       IsJoined later pair → IsJoined arrival pair
   connected_joins arrival later pair reached joined =
-      let there : IsSome later.server = rw joined.server tt in
+      let there : IsSome later.server = rw joined.server refl in
       let same = reached there in
       record {
         number = joined.number ∙ ap (λ (a : Arriving S). a.number) same;
@@ -72,7 +72,7 @@ pub fresh_waits : {S : Type 0} (table : Table) (key number : ℕ) (begun : Optio
     IfSome made (λ (socket : Socket S). IsFresh socket.stream × (socket.made_for ≡ number) × (socket.readiness.may_write ≡ false)) →
     IsSome (option_map (λ (socket : Socket S). socket.stream) made) →
     may_connect table key (option_map (λ (socket : Socket S). socket.readiness) made) ≡ false
-fresh_waits table key number begun None unknown none fresh some = absurd some
+fresh_waits table key number begun None unknown none fresh some = absurd (cc)
 fresh_waits table key number None (Some socket) unknown none fresh some = absurd (let no = none refl in cc)
 fresh_waits table key number (Some connection) (Some socket) unknown none fresh some =
     ap (λ (b : Bool). b || (report_at table key).may_write) fresh.2 ∙ unknown
