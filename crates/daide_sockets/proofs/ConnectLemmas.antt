@@ -1,8 +1,10 @@
 -- The result of a connect: its place rests, or its ports begin, or its bot is given up.
-use Rattle.std.proofs.Common.{◌≡◌, ℕ, ◌<◌, Bool, true, false, List, Option, Some, None, length, refl, sym, ap, ◌∙◌, subst}
-use Rattle.std.specs.Prelude.{◌||◌, IfSome, IsSome, option_map}
+use Rattle.std.proofs.Common.{◌≡◌, ℕ, ◌+◌, ◌*◌, ◌<◌, ◌≤◌, Bool, true, false, List, Option, Some, None, length, refl, sym, ap, ◌∙◌, subst, arith}
+use Rattle.std.proofs.Math.Nat.{min-eq_left}
+use Rattle.std.specs.Prelude.{◌||◌, IfSome, IsSome, min, option_map}
 use Rattle.daide_sockets.specs.declared.socket.Socket.{Socket}
 use Rattle.std.specs.declared.time.Instant.{Instant}
+use Rattle.daide_frame.specs.declared.side.Side.{Side}
 use Rattle.daide_frame.specs.declared.side.Side.TheVariants.{Bot, Server}
 use Rattle.daide_buffered_io.specs.declared.readiness.Readiness.{Readiness}
 use Rattle.daide_sockets.specs.Accepting.{may_connect}
@@ -12,6 +14,12 @@ use Rattle.daide_sockets.specs.Scheduling.{RestsForConnect}
 use Rattle.daide_sockets.specs.Table.{Table, deadline_at, key_of, merged, report_at, resting}
 use Rattle.daide_sockets.specs.Times.{is_past}
 use Rattle.daide_sockets.proofs.KeptRowLemmas.{rests_until, same_deadlines}
+
+-- the key of a row of a place that has both
+pub key_fits : (place most key : ℕ) (side : Side) → key ≡ min (key_of place side) most → key_of place Server ≤ most →
+    key ≡ key_of place side
+key_fits place most key Bot is le = is ∙ min-eq_left {n = 2 * place} {m = most} (omega (arith, le))
+key_fits place most key Server is le = is ∙ min-eq_left {n = 2 * place + 1} {m = most} le
 
 module _ {S : Type 0} where
   -- nothing happens to a place without a pending connect
@@ -45,7 +53,7 @@ module _ {S : Type 0} where
   pub connected_joins : (arrival later : Arriving S) (pair : Paired S) → (IsSome later.server → later ≡ record arrival { known = later.known }) →
       IsJoined later pair → IsJoined arrival pair
   connected_joins arrival later pair reached joined =
-      let there : IsSome later.server = rw joined.server tt in
+      let there : IsSome later.server = rw joined.server refl in
       let same = reached there in
       record {
         number = joined.number ∙ ap (λ (a : Arriving S). a.number) same;
@@ -64,7 +72,7 @@ pub fresh_waits : {S : Type 0} (table : Table) (key number : ℕ) (begun : Optio
     IfSome made (λ (socket : Socket S). IsFresh socket.stream × (socket.made_for ≡ number) × (socket.readiness.may_write ≡ false)) →
     IsSome (option_map (λ (socket : Socket S). socket.stream) made) →
     may_connect table key (option_map (λ (socket : Socket S). socket.readiness) made) ≡ false
-fresh_waits table key number begun None unknown none fresh some = absurd some
+fresh_waits table key number begun None unknown none fresh some = absurd (cc)
 fresh_waits table key number None (Some socket) unknown none fresh some = absurd (let no = none refl in cc)
 fresh_waits table key number (Some connection) (Some socket) unknown none fresh some =
     ap (λ (b : Bool). b || (report_at table key).may_write) fresh.2 ∙ unknown

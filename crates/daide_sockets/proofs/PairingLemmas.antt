@@ -3,7 +3,7 @@ use Rattle.std.proofs.Common.{◌≡◌, ℕ, zero, suc, ◌+◌, Bool, true, fa
 use Rattle.std.proofs.Common.{◌⊎◌, Option, Some, None, inl, inr, subst}
 use Rattle.std.proofs.Common.{◌<◌, ◌++◌, drop, get_or, length}
 use Rattle.std.proofs.Math.Seq.{drop-cons}
-use Rattle.std.specs.Prelude.{is_some, slice_get, slice_set}
+use Rattle.std.specs.Prelude.{IfNone, is_some, slice_get, slice_set}
 use Rattle.daide_sockets.specs.Lingering.{ClosingList}
 use Rattle.daide_sockets.specs.Pairing.{Arriving, RunSockets, IsFreshConnect, StaysPending, StaysPendingIf, TakesOut, arrival_at, arrival_in}
 use Rattle.daide_sockets.specs.Pairing.{is_vacant_in, is_vacant, one_if_arrives, pending_connects, sum_over}
@@ -104,6 +104,13 @@ module _ {S : Type 0} where
   set_twice (first ∷ arrivals) zero one other = refl
   set_twice (first ∷ arrivals) (suc place) one other =
       ap (λ (l : List (Option (Arriving S))). first ∷ l) (set_twice arrivals place one other)
+
+  -- a place from which nothing was taken has no bot, and stays as it is
+  pub none_taken : (old new : List (Option (Arriving S))) (place places : ℕ) (found : Option (Arriving S)) →
+      slice_get old place ≡ Some found → new ≡ slice_set old place None →
+      IfNone found ((place < places → arrival_at old place ≡ None) × (new ≡ old))
+  none_taken old new place places None there e = (λ lt. ap arrival_in there, e ∙ set_same old place None there)
+  none_taken old new place places (Some arrival) there e = tt
 
   -- nothing changes
   pub unchanged_pending : (arrivals : List (Option (Arriving S))) (place : ℕ) →

@@ -126,12 +126,12 @@ module _ {N C S : Type 0} (transition : N → NetworkCall C → N → Type 0) (t
     (control : Control S) (same_watched : IsWatched before watched)
     (polls : PollsPlaces transition time woken network watched polled_network polled) (forgets : first ≡ unwatched polled)
     (advances : KeepsClosingRows first given second left) (orders : ChangesRows (IsControlRow second) second third)
-    (watches : last ≡ watching_control third control) (rows : AreRowsOf before given) where
-  news : List SocketEvent
+    (watches : last ≡ watching_control third control) where
+  abbrev news : List SocketEvent
   news = polls.polls.news
 
   -- what the poll reported, in the table before it
-  reported : Table
+  abbrev reported : Table
   reported = record before {
     reading = latest before.reading polls.polls.reading;
     rows = with_events before.rows news;
@@ -161,10 +161,12 @@ module _ {N C S : Type 0} (transition : N → NetworkCall C → N → Type 0) (t
   last_deadlines = ap (λ (t : Table). t.deadlines) (watches ∙ watched_control third control)
       ∙ ap (λ (t : Table). t.deadlines) orders.same ∙ ap (λ (t : Table). t.deadlines) advances.same ∙ first_deadlines
 
-  last_reading : last.reading ≡ polled.reading
-  last_reading = ap (λ (t : Table). t.reading) (watches ∙ watched_control third control)
+  reading_stays : last.reading ≡ first.reading
+  reading_stays = ap (λ (t : Table). t.reading) (watches ∙ watched_control third control)
       ∙ ap (λ (t : Table). t.reading) orders.same ∙ ap (λ (t : Table). t.reading) advances.same
-      ∙ ap (λ (t : Table). t.reading) forgets
+
+  last_reading : last.reading ≡ polled.reading
+  last_reading = reading_stays ∙ ap (λ (t : Table). t.reading) forgets
 
   watched_deadlines : watched.deadlines ≡ before.deadlines
   watched_deadlines = ap (λ (t : Table). t.deadlines) same_watched
@@ -175,26 +177,27 @@ module _ {N C S : Type 0} (transition : N → NetworkCall C → N → Type 0) (t
   second_count : length second.deadlines ≡ length before.deadlines
   second_count = ap (λ (t : Table). length t.deadlines) advances.same ∙ ap length first_deadlines ∙ count
 
-  first_holds : AreRowsOf first given
-  first_holds = same_holds before first given (ap length first_deadlines ∙ count)
+  first_holds : AreRowsOf before given → AreRowsOf first given
+  first_holds rows = same_holds before first given (ap length first_deadlines ∙ count)
       (ap length first_rows ∙ events_count news before.rows)
       (λ key. ap (λ (r : List Row). (row_at r key).is_taken) first_rows ∙ events_taken news before.rows key) rows
 
   -- each taken row stays that of one closing stream
-  pub holds : AreRowsOf last left
-  holds = same_holds third last left
+  holds : AreRowsOf before given → AreRowsOf last left
+  holds rows = same_holds third last left
       (ap length last_deadlines ∙ sym (ap (λ (t : Table). length t.deadlines) orders.same
       ∙ ap (λ (t : Table). length t.deadlines) advances.same ∙ ap length first_deadlines))
       (ap length last_rows) (λ key. ap (λ (r : List Row). (row_at r key).is_taken) last_rows)
-      (holds_rows (IsControlRow second) second third left (λ key own. own.1) orders (advances.taken first_holds))
+      (holds_rows (IsControlRow second) second third left (λ key own. own.1) orders (advances.taken (first_holds rows)))
 
   -- a row up to the listener's keeps what was reported
-  row_kept : (key : ℕ) → key ≤ listener_key before → row_at last.rows key ≡ row_at (with_events before.rows news) key
-  row_kept key le =
+  row_kept : AreRowsOf before given → (key : ℕ) → key ≤ listener_key before →
+      row_at last.rows key ≡ row_at (with_events before.rows news) key
+  row_kept rows key le =
       let below : key < first_closing first = let same = ap length first_deadlines ∙ count in omega (arith, le, same) in
       ap (λ (r : List Row). row_at r key) last_rows
       ∙ orders.others key (λ own. absurd (let lt = own.0 in let same = second_count in omega (arith, lt, le, same)))
-      ∙ advances.others first_holds key below ∙ ap (λ (r : List Row). row_at r key) first_rows
+      ∙ advances.others (first_holds rows) key below ∙ ap (λ (r : List Row). row_at r key) first_rows
 
   polled_rows : polled.rows ≡ with_events before.rows news
   polled_rows = ap (λ (t : Table). t.rows) polled_is ∙ reported_rows
@@ -203,10 +206,10 @@ module _ {N C S : Type 0} (transition : N → NetworkCall C → N → Type 0) (t
   place_key place Bot lt = omega (arith, lt)
   place_key place Server lt = omega (arith, lt)
 
-  report_kept : (place : ℕ) (side : Side) → place < length before.deadlines →
+  report_kept : AreRowsOf before given → (place : ℕ) (side : Side) → place < length before.deadlines →
       report_at last (key_of place side) ≡ report_at polled (key_of place side)
-  report_kept place side lt =
-      ap (λ (r : Row). r.report) (row_kept (key_of place side) (place_key place side lt)
+  report_kept rows place side lt =
+      ap (λ (r : Row). r.report) (row_kept rows (key_of place side) (place_key place side lt)
       ∙ sym (ap (λ (r : List Row). row_at r (key_of place side)) polled_rows))
 
   deadline_kept : (place : ℕ) → deadline_at last place ≡ deadline_at polled place
@@ -217,10 +220,10 @@ module _ {N C S : Type 0} (transition : N → NetworkCall C → N → Type 0) (t
       let all = occurs_both place woken more in
       grind (arith, none, all)
 
-  pub polls_for_places : (others : List (Bool × Option Instant)) (may_block : Bool) →
+  polls_for_places : AreRowsOf before given → (others : List (Bool × Option Instant)) (may_block : Bool) →
       IsPollTime may_block (watching_all before others) time → GoesUnpolled transition polled_network new_network →
       PollsForPlaces transition others may_block (woken ++ more) network before new_network last
-  polls_for_places others may_block lasts goes = record {
+  polls_for_places rows others may_block lasts goes = record {
     time = time;
     polled = polled_network;
     reported = reported;
@@ -235,19 +238,28 @@ module _ {N C S : Type 0} (transition : N → NetworkCall C → N → Type 0) (t
     };
     goes_on = goes;
     reading = last_reading ∙ ap (λ (t : Table). t.reading) polled_is ∙ reported_reading;
-    reports = λ key le. ap (λ (r : Row). r.report) (row_kept key le);
+    reports = λ key le. ap (λ (r : Row). r.report) (row_kept rows key le);
     asleep = λ place lt none.
         let lt_watched : place < length watched.deadlines = let same = ap length watched_deadlines in omega (arith, lt, same) in
         let asleep = polls.asleep place lt_watched (first_not place none) in (
           record {
-            reports = λ side. report_kept place side lt ∙ asleep.0.reports side
+            reports = λ side. report_kept rows place side lt ∙ asleep.0.reports side
                 ∙ ap (λ (t : Table). report_at t (key_of place side)) same_watched;
             deadline = deadline_kept place ∙ asleep.0.deadline ∙ ap (λ (t : Table). deadline_at t place) same_watched;
           },
           ap (λ (d : Option Instant). is_past last.reading d) (deadline_kept place)
-          ∙ ap (λ (r : Option Instant). is_past r (deadline_at polled place)) last_reading ∙ asleep.1,
+              ∙ ap (λ (r : Option Instant). is_past r (deadline_at polled place)) last_reading ∙ asleep.1,
         );
   }
 
-  pub same_places : length last.deadlines ≡ length before.deadlines
-  same_places = ap length last_deadlines ∙ count
+  -- the poll of a run: the places stay, and the clock is not read again; the rows stay those of closing streams
+  pub polls_run : (others : List (Bool × Option Instant)) (may_block : Bool) →
+      IsPollTime may_block (watching_all before others) time → GoesUnpolled transition polled_network new_network →
+      (length last.deadlines ≡ length before.deadlines) × (last.reading ≡ first.reading)
+      × (AreRowsOf before given → AreRowsOf last left
+      × PollsForPlaces transition others may_block (woken ++ more) network before new_network last)
+  polls_run others may_block lasts goes = (
+    ap length last_deadlines ∙ count,
+    reading_stays,
+    λ rows. (holds rows, polls_for_places rows others may_block lasts goes),
+  )

@@ -1,6 +1,6 @@
-use Rattle.std.proofs.Common.{◌≡◌, ℕ, ◌<◌, refl, rules, arith}
+use Rattle.std.proofs.Common.{refl, rules}
 use Rattle.daide_frame.specs.declared.side.Side.TheVariants.{Bot, Server}
-use Rattle.daide_sockets.specs.Table.{key_of}
+use Rattle.daide_sockets.proofs.ConnectLemmas.{key_fits}
 use Rattle.daide_sockets.proofs.KeptRowLemmas.{accept_only, accept_then, changes_none}
 use Rattle.daide_sockets.proofs.system.Sockets.accept_next.Goals as goal
 
@@ -29,18 +29,16 @@ returns-then-not-has_place-clause-table g c = changes_none _ _ _ refl
 pub returns-in-Err-clause-table : goal.returns-in-Err-clause-table
 returns-in-Err-clause-table g c =
     let has = c.has_place.ensures.rows c.if-not-has_place.false in
-    let lt : c.args.place < _ = has.0 in
-    let most = has.1 in
-    let key : c.bot_key.result ≡ key_of c.args.place Bot = omega (arith, most, c.bot_key.ensures) in
+    let lt = has.0 in
+    let key = key_fits c.args.place _ c.bot_key.result Bot c.bot_key.ensures has.1 in
     rw c.tell_of_declined.ensures (accept_only _ _ c.args.place _ lt key c.next_bot-next.ensures.table)
 
 pub returns-clause-table : goal.returns-clause-table
 returns-clause-table g c =
     let has = c.has_place.ensures.rows c.if-not-has_place.false in
-    let lt : c.args.place < _ = has.0 in
-    let most = has.1 in
-    let bot : c.bot_key.result ≡ key_of c.args.place Bot = omega (arith, most, c.bot_key.ensures) in
-    let server : c.server_key-key.result ≡ key_of c.args.place Server = omega (arith, most, c.server_key-key.ensures) in
+    let lt = has.0 in
+    let bot = key_fits c.args.place _ c.bot_key.result Bot c.bot_key.ensures has.1 in
+    let server = key_fits c.args.place _ c.server_key-key.result Server c.server_key-key.ensures has.1 in
     rw c.put_arrival.ensures.same
     (accept_then _ _ _ c.args.place _ _ lt bot server c.next_bot-next.ensures.table c.new-arrival.ensures.table)
 

@@ -1,10 +1,9 @@
-use Rattle.std.proofs.Common.{◌≡◌, ℕ, ◌<◌, ◌≤◌, List, Option, Some, None, length, refl, sym, ap, ◌∙◌, subst, arith, rules}
-use Rattle.std.specs.declared.time.Instant.{Instant}
+use Rattle.std.proofs.Common.{length, refl, ap, ◌∙◌}
 use Rattle.daide_frame.specs.declared.side.Side.TheVariants.{Bot, Server}
-use Rattle.daide_buffered_io.specs.declared.readiness.Readiness.{Readiness}
-use Rattle.daide_sockets.specs.Table.{Table, key_of, merged, report_at}
+use Rattle.daide_sockets.specs.Pairing.{arrival_at}
+use Rattle.daide_sockets.specs.Table.{Table, key_of, report_at}
 use Rattle.daide_sockets.proofs.AcceptLemmas.{unreached}
-use Rattle.daide_sockets.proofs.ConnectLemmas.{connected_joins, connected_reports, rests_for, rests_unchanged}
+use Rattle.daide_sockets.proofs.ConnectLemmas.{connected_joins, connected_reports, key_fits, rests_for, rests_unchanged}
 use Rattle.daide_sockets.proofs.KeptRowLemmas.{changes_none, connect_beside, connect_bot, connect_holds, connect_kept, connect_others}
 use Rattle.daide_sockets.proofs.KeptRowLemmas.{failed_beside, failed_holds, failed_others, failed_places, rested_holds, rested_places, same_deadlines}
 use Rattle.daide_sockets.proofs.PairingLemmas.{put_back, there_again, unchanged_pending}
@@ -14,14 +13,14 @@ use Rattle.daide_sockets.proofs.system.Sockets.look_at.Goals as goal
 pub returns-in_default-clause-transition : goal.returns-in_default-clause-transition
 returns-in_default-clause-transition g c =
     let nothing = c.in_default.ensures.none in
-    rw (c.take_arrival-arrival.ensures.same, nothing.1) (λ held. (
+    rw (c.take_arrival.ensures.same, nothing.1) (λ held. (
       held,
       (unchanged_pending c.args.self.now.arrivals.items c.args.place, refl, refl),
       (
-        record { places = refl; bounded = rw c.take_arrival-arrival.ensures.same at c.is_bounded.ensures },
+        record { places = refl; bounded = rw c.take_arrival.ensures.same at c.is_bounded.ensures },
         (none g.N.Network.transition _ _ refl, λ other lt ne. record { reports = λ side. refl; deadline = refl }, refl),
       ),
-      (((refl, refl), refl), rests_unchanged _ c.args.self.now.poller.table c.args.place nothing.0),
+      (((refl, refl), refl), rests_unchanged c.args.self.now.arrivals.items c.args.self.now.poller.table c.args.place nothing.0),
       refl,
       λ key le. refl,
     ))
@@ -29,130 +28,151 @@ returns-in_default-clause-transition g c =
 -- sessions end now: the connect is given up
 pub returns-then-stops_now-clause-transition : goal.returns-then-stops_now-clause-transition
 returns-then-stops_now-clause-transition g c =
-    let out = c.in-Some.ensures.some in
+    let old = c.args.self.now.poller.table in
     let lt = c.in-Some.ensures.rows.0 in
-    let closes = rw (c.give_up.ensures.1, c.take_arrival-arrival.ensures.same) at c.let_go.ensures.closes in
-    let rows = rw c.take_arrival-arrival.ensures.same at c.let_go.ensures.rows in
-    rw (c.let_go.ensures.same, c.take_arrival-arrival.ensures.same) (λ held. (
-      failed_holds _ _ _ c.args.place _ _ _ lt refl (changes_none _ _ _ refl) rows held,
-      (c.in-Some.arrival, out, (_, closes), refl),
+    let closes = rw (c.give_up.ensures.1, c.take_arrival.ensures.same) at c.let_go.ensures.closes in
+    let rows = rw c.take_arrival.ensures.same at c.let_go.ensures.rows in
+    rw (c.let_go.ensures.same, c.take_arrival.ensures.same) (λ held. (
+      failed_holds old old _ c.args.place _ _ _ lt refl (changes_none _ _ _ refl) rows held,
+      (c.in-Some.arrival, c.in-Some.ensures.some, (_, closes), refl),
       (
         record {
-          places = failed_places _ _ _ c.args.place _ _ _ lt refl (changes_none _ _ _ refl) rows held;
+          places = failed_places old old _ c.args.place _ _ _ lt refl (changes_none _ _ _ refl) rows held;
           bounded = c.is_bounded-then-stops_now.ensures;
         },
         (
-          rw c.take_arrival-arrival.ensures.same at c.let_go.ensures.calls,
-          failed_others _ _ _ c.args.place _ _ _ lt refl (changes_none _ _ _ refl) rows held,
+          rw c.take_arrival.ensures.same at c.let_go.ensures.calls,
+          failed_others old old _ c.args.place _ _ _ lt refl (changes_none _ _ _ refl) rows held,
           tt,
         ),
       ),
       ((refl, refl), refl),
       (_, closes),
-      failed_beside _ _ _ c.args.place _ _ _ lt refl (changes_none _ _ _ refl) rows held,
+      failed_beside old old _ c.args.place _ _ _ lt refl (changes_none _ _ _ refl) rows held,
     ))
 
 -- it is still pending: its place rests
 pub returns-then-advances-clause-transition : goal.returns-then-advances-clause-transition
 returns-then-advances-clause-transition g c =
+    let old = c.args.self.now in
+    let later = c.advances.new.self in
+    let new = c.put_arrival.new.self.arrivals.items in
     let out = c.in-Some.ensures.some in
-    let lt : c.args.place < length c.args.self.now.poller.table.deadlines = c.in-Some.ensures.rows.0 in
-    let most = c.in-Some.ensures.rows.1 in
-    let key : c.server_key.result ≡ key_of c.args.place Server = omega (arith, most, c.server_key.ensures) in
-    let looked = rw c.take_arrival-arrival.ensures.same at c.advances.ensures in
-    rw (c.put_arrival.ensures.same, c.take_arrival-arrival.ensures.same) (λ held. (
-      rested_holds _ _ c.args.place _ _ c.rest.ensures (connect_holds _ _ c.args.place _ _ lt key looked.table held),
-      (put_back _ _ _ c.args.place _ _ out looked.goes_on c.put_arrival.ensures.put, refl, refl),
+    let lt = c.in-Some.ensures.rows.0 in
+    let key = key_fits c.args.place _ c.server_key.result Server c.server_key.ensures c.in-Some.ensures.rows.1 in
+    let table = rw c.take_arrival.ensures.same at c.advances.ensures.table in
+    let tries = rw c.take_arrival.ensures.same at c.advances.ensures.tries in
+    let early = rw c.take_arrival.ensures.same at (c.advances.ensures.late c.if-advances.true) in
+    rw (c.put_arrival.ensures.same, c.take_arrival.ensures.same) (λ held. (
+      rested_holds _ _ c.args.place _ _ c.rest.ensures (connect_holds _ _ c.args.place _ _ lt key table held),
+      (
+        put_back old.arrivals.items c.take_arrival.new.self.arrivals.items new c.args.place c.in-Some.arrival later out
+            c.advances.ensures.goes_on c.put_arrival.ensures.put,
+        refl,
+        refl,
+      ),
       (
         record {
-          places = rested_places _ _ c.args.place _ c.rest.ensures ∙ ap length (same_deadlines _ _ _ looked.table);
-          bounded = c.is_bounded-then-advances.ensures;
+          places = rested_places _ _ c.args.place _ c.rest.ensures ∙ ap length (same_deadlines _ _ _ table);
+          bounded = rw c.put_arrival.ensures.same at c.is_bounded-then-advances.ensures;
         },
         (
-          tries_unpolled g.N.Network.transition _ _ _ _ _ looked.tries,
-          connect_others _ _ _ c.args.place _ _ key looked.table c.rest.ensures,
+          tries_unpolled g.N.Network.transition _ _ _ _ _ tries,
+          connect_others _ _ _ c.args.place _ _ key table c.rest.ensures,
           ap (λ (t : Table). report_at t (key_of c.args.place Bot)) c.rest.ensures
-              ∙ connect_bot _ _ c.args.place _ key looked.table,
+              ∙ connect_bot _ _ c.args.place _ key table,
         ),
       ),
       (
         ((refl, refl), refl),
-        rests_for _ _ _ c.args.place _ _ _ _ _ (there_again _ _ _ c.args.place _ _ out c.put_arrival.ensures.put) key
-            looked.table c.rest.ensures c.due.ensures looked.goes_on (looked.late c.if-advances.true)
-            (looked.still c.if-advances.true),
+        rests_for old.poller.table c.advances.new.poller.table c.rest.new.self c.args.place c.server_key.result c.in-Some.arrival
+            later c.due.result (arrival_at new c.args.place)
+            (there_again old.arrivals.items c.take_arrival.new.self.arrivals.items new c.args.place c.in-Some.arrival later out
+            c.put_arrival.ensures.put)
+            key table c.rest.ensures c.due.ensures c.advances.ensures.goes_on early
+            (c.advances.ensures.still c.if-advances.true),
       ),
       refl,
       λ row le. ap (λ (t : Table). report_at t row) c.rest.ensures
-          ∙ connect_beside _ _ c.args.place _ lt key looked.table row le,
+          ∙ connect_beside _ _ c.args.place _ lt key table row le,
     ))
 
 -- it is done: its ports begin
 pub returns-in-Ok-clause-transition : goal.returns-in-Ok-clause-transition
 returns-in-Ok-clause-transition g c =
-    let out = c.in-Some.ensures.some in
-    let lt : c.args.place < length c.args.self.now.poller.table.deadlines = c.in-Some.ensures.rows.0 in
-    let most = c.in-Some.ensures.rows.1 in
-    let key : c.server_key.result ≡ key_of c.args.place Server = omega (arith, most, c.server_key.ensures) in
-    let looked = rw c.take_arrival-arrival.ensures.same at c.advances.ensures in
-    let joined = connected_joins c.in-Some.arrival c.advances.new.self _ (looked.reached c.if-advances.false)
+    let old = c.args.self.now.poller.table in
+    let lt = c.in-Some.ensures.rows.0 in
+    let key = key_fits c.args.place _ c.server_key.result Server c.server_key.ensures c.in-Some.ensures.rows.1 in
+    let table = rw c.take_arrival.ensures.same at c.advances.ensures.table in
+    let tries = rw c.take_arrival.ensures.same at c.advances.ensures.tries in
+    let reported = rw (c.take_arrival.ensures.same, key) at (c.advances.ensures.reported c.if-advances.false) in
+    let reading = c.now-now.ensures ∙ ap (λ (t : Table). t.reading) table.same in
+    let begins = rw (reading, c.take_arrival.ensures.same) at c.in-Ok.ensures.begins in
+    let joined = connected_joins c.in-Some.arrival c.advances.new.self _ (c.advances.ensures.reached c.if-advances.false)
     c.in-Ok.ensures.joined in
-    rw (c.tell_of_server.ensures, c.take_arrival-arrival.ensures.same) (λ held. (
-      connect_holds _ _ c.args.place _ _ lt key looked.table held,
-      (c.in-Some.arrival, out, joined, refl, refl),
+    rw (c.tell_of_server.ensures, c.take_arrival.ensures.same) (λ held. (
+      connect_holds _ _ c.args.place _ _ lt key table held,
+      (c.in-Some.arrival, c.in-Some.ensures.some, joined, refl, refl),
       (
-        record { places = ap length (same_deadlines _ _ _ looked.table); bounded = c.is_bounded-in-Ok.ensures },
+        record {
+          places = ap length (same_deadlines _ _ _ table);
+          bounded = rw c.tell_of_server.ensures at c.is_bounded-in-Ok.ensures;
+        },
         (
-          tries_unpolled g.N.Network.transition _ _ _ _ _ looked.tries,
-          connect_kept _ _ c.args.place _ key looked.table,
+          tries_unpolled g.N.Network.transition _ _ _ _ _ tries,
+          connect_kept _ _ c.args.place _ key table,
           (
-            connect_bot _ _ c.args.place _ key looked.table,
-            connected_reports _ _ _ (rw key at (looked.reported c.if-advances.false)) c.in-Ok.ensures.known,
+            connect_bot _ _ c.args.place _ key table,
+            connected_reports c.advances.new.self.known c.in-Ok.ports.server.readiness
+                (report_at old (key_of c.args.place Server)) reported c.in-Ok.ensures.known,
           ),
         ),
       ),
-      (((refl, refl), refl), search rules),
+      (((refl, refl), refl), begins),
       refl,
-      connect_beside _ _ c.args.place _ lt key looked.table,
+      connect_beside _ _ c.args.place _ lt key table,
     ))
 
 -- its server was not reached
 pub returns-in-Err-clause-transition : goal.returns-in-Err-clause-transition
 returns-in-Err-clause-transition g c =
-    let out = c.in-Some.ensures.some in
-    let lt : c.args.place < length c.args.self.now.poller.table.deadlines = c.in-Some.ensures.rows.0 in
-    let most = c.in-Some.ensures.rows.1 in
-    let key : c.server_key.result ≡ key_of c.args.place Server = omega (arith, most, c.server_key.ensures) in
-    let looked = rw c.take_arrival-arrival.ensures.same at c.advances.ensures in
-    let bot = c.in-Err.ensures.unreached.1 ∙ looked.goes_on.bot in
-    let reading = ap (λ (t : Table). t.reading) looked.table.same in
-    let closes = rw (bot, reading, c.take_arrival-arrival.ensures.same) at c.let_go-in-Err.ensures.closes in
-    let rows = rw c.take_arrival-arrival.ensures.same at c.let_go-in-Err.ensures.rows in
-    rw (c.let_go-in-Err.ensures.same, c.take_arrival-arrival.ensures.same) (λ held. (
-      failed_holds _ _ _ c.args.place _ _ _ lt key looked.table rows held,
-      (c.in-Some.arrival, out, (_, closes), refl),
+    let old = c.args.self.now.poller.table in
+    let mid = c.advances.new.poller.table in
+    let lt = c.in-Some.ensures.rows.0 in
+    let key = key_fits c.args.place _ c.server_key.result Server c.server_key.ensures c.in-Some.ensures.rows.1 in
+    let table = rw c.take_arrival.ensures.same at c.advances.ensures.table in
+    let tries = rw c.take_arrival.ensures.same at c.advances.ensures.tries in
+    let bot = c.in-Err.ensures.unreached.1 ∙ c.advances.ensures.goes_on.bot in
+    let reading = ap (λ (t : Table). t.reading) table.same in
+    let closes = rw (bot, reading, c.take_arrival.ensures.same) at c.let_go-in-Err.ensures.closes in
+    let rows = rw c.take_arrival.ensures.same at c.let_go-in-Err.ensures.rows in
+    rw (c.let_go-in-Err.ensures.same, c.take_arrival.ensures.same) (λ held. (
+      failed_holds old mid _ c.args.place _ _ _ lt key table rows held,
+      (c.in-Some.arrival, c.in-Some.ensures.some, (_, closes), refl),
       (
         record {
-          places = failed_places _ _ _ c.args.place _ _ _ lt key looked.table rows held;
+          places = failed_places old mid _ c.args.place _ _ _ lt key table rows held;
           bounded = c.is_bounded-in-Err.ensures;
         },
         (
-          both g.N.Network.transition _ _ _ (tries_unpolled g.N.Network.transition _ _ _ _ _ looked.tries)
+          both g.N.Network.transition _ _ _ (tries_unpolled g.N.Network.transition _ _ _ _ _ tries)
               c.let_go-in-Err.ensures.calls,
-          failed_others _ _ _ c.args.place _ _ _ lt key looked.table rows held,
+          failed_others old mid _ c.args.place _ _ _ lt key table rows held,
           tt,
         ),
       ),
       ((refl, refl), refl),
       (_, closes),
-      failed_beside _ _ _ c.args.place _ _ _ lt key looked.table rows held,
+      failed_beside old mid _ c.args.place _ _ _ lt key table rows held,
     ))
 
 pub returns-in-Err-clause-unreached : goal.returns-in-Err-clause-unreached
 returns-in-Err-clause-unreached g c = λ failed off.
-    let looked = rw c.take_arrival-arrival.ensures.same at c.advances.ensures in
-    rw (c.let_go-in-Err.ensures.same, c.take_arrival-arrival.ensures.same) (
+    let all = rw c.take_arrival.ensures.same at c.advances.ensures.all in
+    let tries = rw c.take_arrival.ensures.same at c.advances.ensures.tries in
+    rw (c.let_go-in-Err.ensures.same, c.take_arrival.ensures.same) (
       c.in-Some.arrival,
       c.advances.new.poller.network,
       c.in-Some.ensures.some,
-      unreached g.N.Network.transition _ _ _ _ _ _ _ (λ early. looked.all early c.in-Err.ensures.unreached.2) looked.tries,
+      unreached g.N.Network.transition _ _ _ _ _ _ _ (λ early. all early c.in-Err.ensures.unreached.2) tries,
     )

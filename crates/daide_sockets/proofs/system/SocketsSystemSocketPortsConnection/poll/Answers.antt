@@ -1,58 +1,41 @@
-use Rattle.std.proofs.Common.{◌++◌, refl, sym, ap, ◌∙◌}
+use Rattle.std.proofs.Common.{ℕ, ◌<◌, ◌++◌, refl, sym, ap, ◌∙◌, subst}
 use Rattle.daide_io.specs.ReadyQueue.{ReadyView, woken_all}
 use Rattle.daide_io.proofs.ReadyLemmas.{woken_both}
+use Rattle.daide_sockets.specs.Beside.{listener_watched, others_watched}
 use Rattle.daide_sockets.specs.Rows.{closing_keys}
-use Rattle.daide_sockets.proofs.RunPollLemmas.{among_later, holds, polls_for_places, same_places}
+use Rattle.daide_sockets.specs.declared.control.Control.{Control}
+use Rattle.daide_sockets.proofs.RunPollLemmas.{among_later, polls_run}
 use Rattle.daide_sockets.proofs.system.SocketsSystemSocketPortsConnection.poll.Goals as goal
 
 pub returns-clause-transition : goal.returns-clause-transition
 returns-clause-transition g c =
-    let p = rw c.note_capacity.ensures.same at c.poll_places.ensures.polls in
-    let more = c.wake_stopped.ensures in
+    let old = c.args.self.now in
+    let polled = rw c.note_capacity.ensures.same at c.poll_places.ensures.polls in
+    let came = rw (c.poll_places.ensures.same, c.note_capacity.ensures.same) at c.tidy.ensures.came in
+    let closing = rw (c.poll_places.ensures.same, c.note_capacity.ensures.same) at c.tidy.ensures.closing in
+    let control = rw (c.poll_places.ensures.same, c.note_capacity.ensures.same) at c.tidy.ensures.control in
     let rows = rw (c.poll_places.ensures.same, c.note_capacity.ensures.same) at c.tidy.ensures.rows in
-    let orders = c.take_orders-orders.ensures.watched in
+    let watched = c.take_orders-orders.ensures.watched in
     let goes = rw c.tidy.ensures.network at c.take_orders-orders.ensures.calls in
-    let wakes = more.1 ∙ ap (λ (q : ReadyView). woken_all more.0 q) p.1 ∙ sym (woken_both p.0 more.0 _) in
+    let more = c.wake_stopped.ensures in
+    let all = polls_run g.N.Network.transition polled.2 polled.0 more.0 old.poller.network c.poll_places.new.self.poller.network
+    c.take_orders-orders.new.self.poller.network old.poller.table polled.4 polled.6 c.poll_places.new.self.poller.table
+    c.tidy.new.self.poller.table watched.0 c.take_orders-orders.new.self.poller.table (closing_keys old.closings.streams)
+    (closing_keys c.tidy.new.self.closings.streams) c.take_orders-orders.new.self.control polled.5 polled.7 polled.8 rows watched.1
+    watched.2 (others_watched old.poller.table (listener_watched old.poller.table old.acceptor) old.closings.streams)
+    c.args.may_block polled.3 goes in
     rw (c.take_orders-orders.ensures.same, c.tidy.ensures.same, c.poll_places.ensures.same, c.note_capacity.ensures.same) (
-      p.0 ++ more.0,
-      wakes,
+      polled.0 ++ more.0,
+      more.1 ∙ ap (λ (q : ReadyView). woken_all more.0 q) polled.1 ∙ sym (woken_both polled.0 more.0 _),
       λ held. (
-        holds g.N.Network.transition p.2 p.0 more.0 c.args.self.now.poller.network
-            c.poll_places.new.self.poller.network c.take_orders-orders.new.self.poller.network c.args.self.now.poller.table p.4 p.6
-            c.poll_places.new.self.poller.table c.tidy.new.self.poller.table orders.0 c.take_orders-orders.new.self.poller.table
-            (closing_keys c.args.self.now.closings.streams) (closing_keys c.tidy.new.self.closings.streams)
-            c.take_orders-orders.new.self.control p.5 p.7 p.8 rows orders.1 orders.2 held,
-        (c.take_orders-orders.ensures.came ∙ c.tidy.ensures.came, refl, (_, c.tidy.ensures.closing)),
-        (
-          record {
-            places = same_places g.N.Network.transition p.2 p.0 more.0 c.args.self.now.poller.network
-            c.poll_places.new.self.poller.network c.take_orders-orders.new.self.poller.network c.args.self.now.poller.table p.4 p.6
-            c.poll_places.new.self.poller.table c.tidy.new.self.poller.table orders.0 c.take_orders-orders.new.self.poller.table
-            (closing_keys c.args.self.now.closings.streams) (closing_keys c.tidy.new.self.closings.streams)
-            c.take_orders-orders.new.self.control p.5 p.7 p.8 rows orders.1 orders.2 held;
-            bounded = c.is_bounded.ensures;
-          },
-          (
-            _,
-            polls_for_places g.N.Network.transition p.2 p.0 more.0 c.args.self.now.poller.network
-            c.poll_places.new.self.poller.network c.take_orders-orders.new.self.poller.network c.args.self.now.poller.table p.4 p.6
-            c.poll_places.new.self.poller.table c.tidy.new.self.poller.table orders.0 c.take_orders-orders.new.self.poller.table
-            (closing_keys c.args.self.now.closings.streams) (closing_keys c.tidy.new.self.closings.streams)
-            c.take_orders-orders.new.self.control p.5 p.7 p.8 rows orders.1 orders.2
-                held _ c.args.may_block p.3 goes,
-          ),
-        ),
-        (
-          (refl, refl),
-          polls_for_places g.N.Network.transition p.2 p.0 more.0 c.args.self.now.poller.network
-            c.poll_places.new.self.poller.network c.take_orders-orders.new.self.poller.network c.args.self.now.poller.table p.4 p.6
-            c.poll_places.new.self.poller.table c.tidy.new.self.poller.table orders.0 c.take_orders-orders.new.self.poller.table
-            (closing_keys c.args.self.now.closings.streams) (closing_keys c.tidy.new.self.closings.streams)
-            c.take_orders-orders.new.self.control p.5 p.7 p.8 rows orders.1 orders.2
-              held _ c.args.may_block p.3 goes,
-        ),
-        c.tidy.ensures.closing,
+        (all.2 held).0,
+        (c.take_orders-orders.ensures.came ∙ came, refl, (_, closing)),
+        (record { places = all.0; bounded = c.is_bounded.ensures }, (_, (all.2 held).1)),
+        ((refl, refl), (all.2 held).1),
+        rw all.1 closing,
         tt,
       ),
-      λ stops was place lt. among_later place p.0 more.0 (more.2 stops was place lt),
+      λ stops was place lt. among_later place polled.0 more.0 (more.2 stops
+          (c.stops_now-was_stopped.ensures ∙ ap (λ (k : Control g.row.N-Connection.Denot). k.stops_now) control ∙ was) place
+          (subst (λ (n : ℕ). place < n) (sym all.0) lt)),
     )
