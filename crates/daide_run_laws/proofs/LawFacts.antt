@@ -24,7 +24,7 @@ use Rattle.daide_event_loop.specs.Served.{IsServed}
 use Rattle.daide_sockets.specs.Accepting.{is_bot_due, AcceptsThenConnects}
 use Rattle.daide_sockets.specs.declared.ports.SocketPorts.{SocketPorts}
 use Rattle.daide_sockets.specs.InTime.{IsAtMost}
-use Rattle.daide_sockets.specs.Pairing.{is_free_place}
+use Rattle.daide_sockets.specs.Pairing.{is_vacant}
 use Rattle.daide_sockets.specs.Table.{Table, IsNoTime}
 use Rattle.daide_sockets.specs.Times.{is_past}
 use Rattle.daide_sockets.specs.Scheduling.{RunState, Schedules, AwaitsBots, RunEvolves, HasRoomForBot, HoldsRows}
@@ -158,7 +158,7 @@ module _ {P S N C : Type 0} (port_transition : P → PortCall → P → Type 0) 
     (before early : List (SystemCall P)) (run next : ServiceView P) (first old new : RunState N S) (came : Bool)
     (bots : bots_in_all settings ≡ 40) (none : first.acceptor.came ≡ 0) (holds : HoldsRows first)
     (places : length first.table.deadlines ≡ settings.max_sessions)
-    (no_arrivals : (other : ℕ) → other < settings.max_sessions → is_free_place first.arrivals other ≡ true)
+    (no_arrivals : (other : ℕ) → other < settings.max_sessions → is_vacant first.arrivals other ≡ true)
     (rounds : Rounds port_transition 9 (initial_service settings) before run)
     (round : Round port_transition run (early ++ Accepts 2 came ∷ []) next)
     (trace : TransitsBy (RunEvolves transition to_give taken calls ports_in) first (before ++ early) old)
@@ -169,7 +169,7 @@ module _ {P S N C : Type 0} (port_transition : P → PortCall → P → Type 0) 
       round trace accept
 
   -- no connect is pending at the place of the bot
-  free_place : is_free_place old.arrivals 2 ≡ true
+  free_place : is_vacant old.arrivals 2 ≡ true
   free_place = has_room.0.1
 
   -- while an accept is due, exactly one is made

@@ -31,7 +31,7 @@ use Rattle.daide_event_loop.proofs.OrderLemmas.{accepts_early, counted_early, vi
 use Rattle.daide_event_loop.proofs.RestingLemmas.{visit_elsewhere, visit_there}
 use Rattle.daide_event_loop.proofs.ServedLemmas.{ChangesOnlyAt, one_there, all_turns, all_rests, all_shown, rounds_serve}
 use Rattle.daide_event_loop.proofs.WaitingLemmas.{IsElsewhere}
-use Rattle.daide_sockets.specs.Pairing.{Arriving, Paired, RunSockets, StaysPendingIf, TakesOut, Transits, arrival_in, arrival_at, is_free_in, is_free_place}
+use Rattle.daide_sockets.specs.Pairing.{Arriving, Paired, RunSockets, StaysPendingIf, TakesOut, Transits, arrival_in, arrival_at, is_vacant_in, is_vacant}
 use Rattle.daide_sockets.specs.Scheduling.{RunState, RunEvolves, HasRoomForBot, HoldsRows, sockets_in, pair_of}
 use Rattle.daide_sockets.specs.declared.ports.SocketPorts.{SocketPorts}
 use Rattle.daide_run_laws.specs.Room.{EachBotHasRoom}
@@ -88,7 +88,7 @@ module _ {P : Type 0} where
 
 -- ---- in the sockets
 
-free_none : {S : Type 0} (at : Option (Option (Arriving S))) → is_free_in at ≡ true → arrival_in at ≡ None
+free_none : {S : Type 0} (at : Option (Option (Arriving S))) → is_vacant_in at ≡ true → arrival_in at ≡ None
 free_none None e = absurd (cc)
 free_none (Some None) e = refl
 free_none (Some (Some arrival)) e = absurd (cc)
@@ -100,7 +100,7 @@ or_false true b e = absurd (cc)
 module _ {P S : Type 0} (to_give taken : S → Option (List ℕ)) (calls : S → Option (List StreamCall))
     (pair : P → Paired S) where
   abbrev IsFreeUnless : Bool → ℕ → List (Option (Arriving S)) → Type 0
-  IsFreeUnless pending place arrivals = pending ≡ false → is_free_place arrivals place ≡ true
+  IsFreeUnless pending place arrivals = pending ≡ false → is_vacant arrivals place ≡ true
 
   same_free : (pending : Bool) (place : ℕ) (old new : List (Option (Arriving S))) → new ≡ old →
       IsFreeUnless pending place old → IsFreeUnless pending place new
@@ -109,10 +109,10 @@ module _ {P S : Type 0} (to_give taken : S → Option (List ℕ)) (calls : S →
 
   -- another place is set
   beside_free : (place other : ℕ) (old : List (Option (Arriving S))) (one : Option (Arriving S)) (new : List (Option (Arriving S))) →
-      other ≢ place → new ≡ slice_set old other one → is_free_place old place ≡ true → is_free_place new place ≡ true
+      other ≢ place → new ≡ slice_set old other one → is_vacant old place ≡ true → is_vacant new place ≡ true
   beside_free place other old one new apart e free =
-      ap (λ (l : List (Option (Arriving S))). is_free_place l place) e
-      ∙ ap (λ (at : Option (Option (Arriving S))). is_free_in at) (set_other old other place one apart) ∙ free
+      ap (λ (l : List (Option (Arriving S))). is_vacant l place) e
+      ∙ ap (λ (at : Option (Option (Arriving S))). is_vacant_in at) (set_other old other place one apart) ∙ free
 
   taken_free : (was : Bool) (place other : ℕ) (arrival : Arriving S) (old new : List (Option (Arriving S))) →
       TakesOut old other arrival new → IsFreeUnless was place old → IsFreeUnless (not (other == place) && was) place new
@@ -120,9 +120,9 @@ module _ {P S : Type 0} (to_give taken : S → Option (List ℕ)) (calls : S →
     where
       by : (same : Bool) → (other == place) ≡ same → IsFreeUnless (not same && was) place new
       by true e = λ none.
-          subst (λ (n : ℕ). is_free_place new n ≡ true) (eqb-true other place e)
-          (ap (λ (l : List (Option (Arriving S))). is_free_place l other) h.free
-          ∙ ap (λ (at : Option (Option (Arriving S))). is_free_in at) (get_set old other None (Some arrival) h.there))
+          subst (λ (n : ℕ). is_vacant new n ≡ true) (eqb-true other place e)
+          (ap (λ (l : List (Option (Arriving S))). is_vacant l other) h.free
+          ∙ ap (λ (at : Option (Option (Arriving S))). is_vacant_in at) (get_set old other None (Some arrival) h.there))
       by false e = λ none. beside_free place other old None new (eqb-false other place e) h.free (free none)
 
   stays_free : (was : Bool) (place other : ℕ) (at : Option (Arriving S)) (old new : List (Option (Arriving S))) →
@@ -133,7 +133,7 @@ module _ {P S : Type 0} (to_give taken : S → Option (List ℕ)) (calls : S →
       by : (same : Bool) → (other == place) ≡ same → IsFreeUnless was place new
       by true s = λ none.
           (let here : arrival_at old other ≡ None =
-          free_none (slice_get old other) (subst (λ (n : ℕ). is_free_place old n ≡ true) (sym (eqb-true other place s)) (free none)) in
+          free_none (slice_get old other) (subst (λ (n : ℕ). is_vacant old n ≡ true) (sym (eqb-true other place s)) (free none)) in
           absurd (cc))
       by false s = λ none. beside_free place other old (Some h.0) new (eqb-false other place s) h.2 (free none)
 

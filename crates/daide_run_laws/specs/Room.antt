@@ -9,7 +9,7 @@ use Rattle.daide_settings.specs.BotsInAll.{bots_in_all}
 use Rattle.daide_settings.specs.declared.settings.Settings.{Settings}
 use Rattle.daide_event_loop.specs.Serving.{ServiceView, Round, Rounds, initial_service}
 use Rattle.daide_sockets.specs.Accepting.{is_bot_due, AcceptsThenConnects}
-use Rattle.daide_sockets.specs.Pairing.{is_free_place}
+use Rattle.daide_sockets.specs.Pairing.{is_vacant}
 use Rattle.daide_sockets.specs.Scheduling.{RunState, RunEvolves, HasRoomForBot, HoldsRows}
 use Rattle.daide_sockets.specs.declared.ports.SocketPorts.{SocketPorts}
 
@@ -22,7 +22,7 @@ EachBotHasRoom {P} {S} {N} port_transition transition to_give taken calls ports_
     (before early : List (SystemCall P)) (run next : ServiceView P) (first old new : RunState N S) (place : ℕ) (came : Bool) →
     bots_in_all settings ≤ 4294967295 → first.acceptor.came ≡ 0 → HoldsRows first →
     length first.table.deadlines ≡ settings.max_sessions →
-    ((other : ℕ) → other < settings.max_sessions → is_free_place first.arrivals other ≡ true) →
+    ((other : ℕ) → other < settings.max_sessions → is_vacant first.arrivals other ≡ true) →
     Rounds port_transition n (initial_service settings) before run →
     Round port_transition run (early ++ Accepts place came ∷ []) next →
     TransitsBy (RunEvolves transition to_give taken calls ports_in) first (before ++ early) old →
