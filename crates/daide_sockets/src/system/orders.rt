@@ -36,7 +36,6 @@ impl<'w, N: Network, E: Write + Drop> Sockets<'w, N, E> {
     {
         let connecting = counted(pending_count(self.arrivals.as_slice()));
         let present = counted(self.present.len());
-        let is_full = self.present.len() >= self.max_sessions;
         RunStatus {
             open: present.saturating_sub(connecting),
             connecting,
@@ -46,10 +45,18 @@ impl<'w, N: Network, E: Write + Drop> Sockets<'w, N, E> {
                 .saturating_sub(present)
                 .saturating_sub(self.unreached),
             unreached: self.unreached,
-            has_waiting: is_full && self.acceptor.is_due(&self.poller.table),
+            has_waiting: self.has_waiting(),
             is_stopping: self.control.stops_accepting(),
             seconds: self.control.seconds(self.poller.table.now()),
         }
+    }
+
+    /// Returns whether the run is full while an accept of a bot is due.
+    fn has_waiting(&self) -> bool
+        ensures { result ≡ (nat_le self.now.max_sessions (length self.now.present.numbers.items)
+            && is_bot_due self.now.poller.table self.now.acceptor) }
+    {
+        self.present.len() >= self.max_sessions && self.acceptor.is_due(&self.poller.table)
     }
 
     /// Returns whether all bots of the run came.
