@@ -390,7 +390,7 @@ module _ (old new : Table) (place : ℕ) (given left : List ℕ)
   retire_others = keeps_others old new place
       (λ other side lt ne. row_kept (key_of other side) (below_closing old other side lt) (not_own other side ne))
       (λ other ne. ap (λ (t : Table). slice_get t.deadlines other) h.same
-          ∙ ap (λ (t : Table). slice_get t.deadlines other) quiet_changes.same ∙ get_other old.deadlines place other None ne)
+      ∙ ap (λ (t : Table). slice_get t.deadlines other) quiet_changes.same ∙ get_other old.deadlines place other None ne)
 
   pub retire_beside : place < length old.deadlines → KeepsReportsOf (IsFixedRow old) old new
   retire_beside lt key fixed =
@@ -422,9 +422,9 @@ module _ (old mid new : Table) (place key : ℕ) (given left : List ℕ) (lt : p
   pub failed_others : KeepsOtherPlaces old place new
   failed_others = keeps_others old new place
       (λ other side few ne. failed_row (key_of other side) (below_closing old other side few)
-          (λ own. keys_apart place other Server side ne (own ∙ is)))
+      (λ own. keys_apart place other Server side ne (own ∙ is)))
       (λ other ne. ap (λ (t : Table). slice_get t.deadlines other) h.same ∙ get_other mid.deadlines place other None ne
-          ∙ ap (λ (t : Table). slice_get t.deadlines other) connects.same)
+      ∙ ap (λ (t : Table). slice_get t.deadlines other) connects.same)
 
   pub failed_beside : KeepsReportsOf (IsFixedRow old) old new
   failed_beside row fixed =

@@ -513,7 +513,11 @@ impl<'w, S: Duplex + Drop> PendingConnection<'w, S> {
     /// `still`: if it is pending, the connect has no result until the next report.
     ///
     /// `reported`: if it is connected, what was reported is known of its socket.
-    fn progress<N: Network<Connection = S>>(&mut self, poller: &mut Poller<N>, key: usize) -> ConnectStatus
+    fn progress<N: Network<Connection = S>>(
+        &mut self,
+        poller: &mut Poller<N>,
+        key: usize,
+    ) -> ConnectStatus
         ensures quiet { may_connect poller.old.table key self.old.known ≡ false →
             (result ≡ ConnectStatus.Pending) × (poller.new.network ≡ poller.old.network) }
         ensures asked { may_connect poller.old.table key self.old.known ≡ true → (server : Buffer S) →

@@ -409,9 +409,10 @@ impl<'w, N: Network, E: Write + Drop> System<SocketPorts<'w, N::Connection>> for
             self.old.arrivals.items self.old.closings)
             (Polls may_block woken result)
             (run_state (self.new.poller.network, self.new.poller.table) (self.new.idle_time, self.new.stall_time) self.new.acceptor
-            self.new.arrivals.items self.new.closings)
-            × (self.new.control.stops_now ≡ true → self.old.control.stops_now ≡ false → (place : ℕ) →
-            place < length self.old.poller.table.deadlines → is_among place woken ≡ true) }
+            self.new.arrivals.items self.new.closings) }
+        ensures stops { self.new.control.stops_now ≡ true → self.old.control.stops_now ≡ false → (woken : List ℕ)
+            × (ready.new ≡ woken_all woken ready.old) × ((place : ℕ) →
+            place < length self.new.poller.table.deadlines → is_among place woken ≡ true) }
         ensures orders { result.stops_accepting ≡ self.new.control.stops_accepting }
         ensures kept { self.old.control.stops_accepting ≡ true → self.new.control.stops_accepting ≡ true }
         ensures now_kept { self.old.control.stops_now ≡ true → self.new.control.stops_now ≡ true }

@@ -254,8 +254,13 @@ impl<'w, N: Network, E: Write + Drop> Sockets<'w, N, E> {
         };
         let times = (self.im_time, self.connect_time);
         let key = server_key(place);
-        let arrival =
-            PendingConnection::new(&mut self.poller, self.servers, key, (number, bot), times);
+        let arrival = PendingConnection::new(
+            &mut self.poller,
+            self.servers,
+            key,
+            (number, bot),
+            times,
+        );
         self.put_arrival(place, arrival);
         Some(SessionNotice::Began {
             number,

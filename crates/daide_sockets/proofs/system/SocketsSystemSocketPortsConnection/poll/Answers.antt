@@ -14,7 +14,7 @@ returns-clause-transition g c =
     let old = c.args.self.now in
     let polled = c.poll_places.ensures.polls in
     let watches = subst (λ s. IsPollTime c.args.may_block (watching_all s.poller.table (others_watched s.poller.table
-        (listener_watched s.poller.table s.acceptor) s.closings.streams)) polled.2) c.note_capacity.ensures.same polled.3 in
+    (listener_watched s.poller.table s.acceptor) s.closings.streams)) polled.2) c.note_capacity.ensures.same polled.3 in
     let asleep = rw c.note_capacity.ensures.same at polled.5 in
     let places = rw c.note_capacity.ensures.same at polled.7 in
     let came = rw (c.poll_places.ensures.same, c.note_capacity.ensures.same) at c.tidy.ensures.came in
@@ -41,7 +41,17 @@ returns-clause-transition g c =
         rw all.1 closing,
         tt,
       ),
-      λ stops was place lt. among_later place polled.0 more.0 (more.2 stops
-          (c.stops_now-was_stopped.ensures ∙ ap (λ (k : Control g.row.N-Connection.Denot). k.stops_now) control ∙ was) place
-          (subst (λ (n : ℕ). place < n) (sym all.0) lt)),
     )
+
+pub returns-clause-stops : goal.returns-clause-stops
+returns-clause-stops g c =
+    let polled = c.poll_places.ensures.polls in
+    let control = rw (c.poll_places.ensures.same, c.note_capacity.ensures.same) at c.tidy.ensures.control in
+    let more = c.wake_stopped.ensures in
+    rw (c.take_orders-orders.ensures.same, c.tidy.ensures.same, c.poll_places.ensures.same, c.note_capacity.ensures.same)
+    (λ stops was. (
+      polled.0 ++ more.0,
+      more.1 ∙ ap (λ (q : ReadyView). woken_all more.0 q) polled.1 ∙ sym (woken_both polled.0 more.0 _),
+      λ place lt. among_later place polled.0 more.0 (more.2 stops
+          (c.stops_now-was_stopped.ensures ∙ ap (λ (k : Control g.row.N-Connection.Denot). k.stops_now) control ∙ was) place lt),
+    ))
