@@ -7,7 +7,7 @@ ghost use Rattle.daide_run.specs.Gateway.{Announces};
 use crate::causes::end_failed;
 use daide_command_line::arguments::RunOrder;
 use daide_log::Sink;
-use daide_run::{RunFault, run_recorded, run_text};
+use daide_run::{RunFault, run_text};
 use daide_tools::faults::{CLEAN, FAULT, tell};
 use daide_tools::settings_file::text_at;
 use std::io;
@@ -25,10 +25,7 @@ fn run_ordered<R: AllocGlobal + Files + Clock + Net, O: Sink, E: Write>(
 ) -> Result<(), RunFault>
     ensures { OnOk result (Announces (HasFailed O.Fails) (O.contents output.old) (O.contents output.new)) }
 {
-    if let Some(folder) = order.record {
-        return run_recorded(rt, text, (folder, order.is_verbose), output, errors);
-    }
-    run_text(rt, text, order.is_verbose, output, errors)
+    run_text(rt, text, order.record, order.is_verbose, output, errors)
 }
 
 /// Reads the settings of a file, binds the address, prints `listening`, and serves until all bots were served. Returns

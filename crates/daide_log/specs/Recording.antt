@@ -35,6 +35,15 @@ pub record Written : Type 0 where
   pub lines : ℕ
   pub ending : RecordEnd
 
+-- Where there is no record, it is as one that failed before its first line: it takes none.
+abbrev pub no_record : Written
+no_record = record { text = None; unwritten = []; lines = 0; ending = Failed }
+
+-- the record, if there is one
+abbrev pub written_in : Option Written → Written
+written_in None = no_record
+written_in (Some written) = written
+
 -- A whole record gets a line. If it has the greatest number of lines, it keeps its text instead. After a failed write
 -- nothing is stated about its text.
 abbrev pub GetsLine : Type 0 → RecordEnd → Written → List ℕ → Written → Type 0

@@ -16,7 +16,8 @@ use crate::record_text::{put_event, put_head};
 use daide_causes::Sink;
 use daide_frame::Side;
 pub use daide_log_lines::lines::MOST_LINES;
-use daide_log_lines::page::{PAGE, Page};
+use daide_log_lines::page::PAGE;
+pub use daide_log_lines::page::Page;
 use daide_log_lines::text::LONGEST_LINE;
 use daide_protocol::Config;
 use daide_words::Words;
@@ -65,11 +66,11 @@ pub enum RecordEnd {
     Full,
 }
 
-/// The record of one session: a log of version 2, over a writer.
+/// The record of one session: a log of version 2, over a writer. Its page is on the heap.
 #[derive(Drop)]
 pub struct Record<W: Sink + Drop> {
     writer: W,
-    held: Page,
+    held: Box<Page>,
     lines: u32,
     ending: RecordEnd,
 }
@@ -81,8 +82,8 @@ impl<W: Sink + Drop> Model for Record<W> {
     ghost Value = { Written };
 
     ghost view = { λ r. record {
-      text = append_known (W.contents r.writer) r.held.items;
-      unwritten = r.held.items;
+      text = append_known (W.contents r.writer) r.held.value.items;
+      unwritten = r.held.value.items;
       lines = r.lines;
       ending = r.ending;
     } };
@@ -150,9 +151,9 @@ fn hand_over_rest<W: Sink>(ending: RecordEnd, held: &mut Page, writer: &mut W) -
 }
 
 impl<W: Sink + Drop> Record<W> {
-    /// Creates a record of a session with these limits and words, over a writer. It holds the head, and has written
-    /// nothing yet.
-    pub fn new(writer: W, config: Config, words: Words) -> Record<W>
+    /// Creates a record of a session with these limits and words, over a writer. It holds the head in the page, whose
+    /// earlier content is dropped, and has written nothing yet.
+    pub fn new(page: Box<Page>, writer: W, config: Config, words: Words) -> Record<W>
         ensures { result ≡ record {
           text = append_known (W.contents writer) (head_text config (words_of words));
           unwritten = head_text config (words_of words);
@@ -160,7 +161,8 @@ impl<W: Sink + Drop> Record<W> {
           ending = RecordEnd.Whole;
         } }
     {
-        let mut held = Page::new();
+        let mut held = page;
+        held.clear();
         put_head(&config, &words, &mut held);
         Record {
             writer,

@@ -3,7 +3,7 @@
 ghost use Rattle.std.specs.Prelude.{◌≡◌, ◌≢◌, []};
 ghost use Rattle.daide_io.specs.Ports.{TurnBegins};
 ghost use Rattle.daide_io.specs.System.{BeginsTurn};
-ghost use Rattle.daide_log.specs.Recording.{due_time as time_due};
+ghost use Rattle.daide_log.specs.Recording.{due_time as time_due, written_in};
 
 use crate::comment::Comment;
 use crate::moment::Moment;
@@ -39,13 +39,23 @@ fn due_time(now: Option<Moment>, last: Option<Moment>) -> Option<Moment>
     }
 }
 
-/// Ports that record what they return to a session, with times: bytes received, ends, the IM timer, stops, and a failed
-/// wire as the end of its side. They return what the inner ports return, which get at most 1,024 bytes of a buffer
+/// Returns how a record ended, or would end now; `Failed` if there is none.
+fn ending_in<W: Sink + Drop>(log: &Option<Record<W>>) -> RecordEnd
+    ensures { result ≡ (written_in log.now).ending }
+{
+    match log {
+        Some(log) => log.ending(),
+        None => RecordEnd::Failed,
+    }
+}
+
+/// Ports that may record what they return to a session, with times: bytes received, ends, the IM timer, stops, and a
+/// failed wire as the end of its side. They return what the inner ports return, which get at most 1,024 bytes of a buffer
 /// (`asked_within`).
 ///
 /// Each call adds to the record the line of what it returned, or nothing (`Records`). A whole record takes it
 /// while it has fewer than 1,000,000 lines; else it hands over what it holds, and is full. A record that failed or is
-/// full does not change.
+/// full does not change. Ports without a record are as those whose record failed before its first line.
 ///
 /// The caller gives the present time at the beginning of each turn (`begin_turn`). A comment with it stands before the
 /// line of an event, unless the last time in the record is less than 10 milliseconds from it (`due_time`). Without a
@@ -60,7 +70,7 @@ fn due_time(now: Option<Moment>, last: Option<Moment>) -> Option<Moment>
 #[derive(Drop)]
 pub struct Recording<P: Ports, W: Sink + Drop> {
     ports: P,
-    log: Record<W>,
+    log: Option<Record<W>>,
     activity: Activity,
     present: Option<Moment>,
     last: Option<Moment>,
@@ -69,13 +79,13 @@ pub struct Recording<P: Ports, W: Sink + Drop> {
 }
 
 impl<P: Ports, W: Sink + Drop> Model for Recording<P, W> {
-    ghost use Rattle.daide_log.specs.Recording.{Recorded};
+    ghost use Rattle.daide_log.specs.Recording.{Recorded, written_in};
 
     ghost Value = { Recorded P };
 
     ghost view = { λ r. record {
       ports = r.ports;
-      record_of = r.log;
+      record_of = written_in r.log;
       activity = r.activity;
       present = r.present;
       last = r.last;
@@ -83,21 +93,22 @@ impl<P: Ports, W: Sink + Drop> Model for Recording<P, W> {
 }
 
 impl<P: Ports, W: Sink + Drop> Recording<P, W> {
-    ghost use Rattle.std.specs.Prelude.{None, Some};
-    ghost use Rattle.daide_log.specs.Recording.{KeepsText, HasFailed, FitsLine, line_event};
+    ghost use Rattle.std.specs.Prelude.{None, Some, IsNone, IfSome};
+    ghost use Rattle.daide_log.specs.Recording.{KeepsText, HasFailed, FitsLine, line_event, no_record, written_in};
     ghost use Rattle.daide_log.specs.Recording.{Records, TakesTime, TakesCall, last_time};
 
-    /// Wraps ports, whose calls are recorded from now on. `began` is the last time that the record has.
-    pub fn new(ports: P, log: Record<W>, began: Option<Moment>) -> Recording<P, W>
+    /// Wraps ports. If there is a record, their calls are recorded in it from now on. `began` is the last time that the
+    /// record has.
+    pub fn new(ports: P, log: Option<Record<W>>, began: Option<Moment>) -> Recording<P, W>
         ensures { result ≡ record {
           ports = ports;
-          record_of = log;
+          record_of = written_in log;
           activity = Activity.Moving;
           present = began;
           last = began;
         } }
     {
-        let reported = Cell::new(log.ending());
+        let reported = Cell::new(ending_in(&log));
         Recording {
             ports,
             log,
@@ -120,12 +131,12 @@ impl<P: Ports, W: Sink + Drop> Recording<P, W> {
 
     /// Returns whether the record failed or became full, and that was not reported yet.
     pub fn has_unreported_end(&self) -> bool {
-        self.log.ending() != self.reported.get()
+        ending_in(&self.log) != self.reported.get()
     }
 
     /// Notes that the record's end was reported.
     pub fn note_reported(&self) {
-        self.reported.set(self.log.ending());
+        self.reported.set(ending_in(&self.log));
     }
 
     /// Records the time that is due, if one is.
@@ -138,7 +149,10 @@ impl<P: Ports, W: Sink + Drop> Recording<P, W> {
         ensures last { self.new.last ≡ last_time (time_due self.old.present self.old.last) self.old.last }
     {
         if let Some(due) = due_time(self.present, self.last) {
-            self.log.comment(Comment::Timed(due.utc()));
+            let at = due.utc();
+            if let Some(log) = &mut self.log {
+                log.comment(Comment::Timed(at));
+            }
             self.last = Some(due);
         }
     }
@@ -154,7 +168,9 @@ impl<P: Ports, W: Sink + Drop> Recording<P, W> {
     {
         if !event.is_silent() {
             self.record_time();
-            self.log.record(event);
+            if let Some(log) = &mut self.log {
+                log.record(event);
+            }
         }
         self.activity = activity;
     }
@@ -170,7 +186,9 @@ impl<P: Ports, W: Sink + Drop> Recording<P, W> {
         ensures activity { self.new.activity ≡ Activity.Idle }
     {
         if self.activity != Activity::Moving {
-            self.log.flush();
+            if let Some(log) = &mut self.log {
+                log.flush();
+            }
         }
         self.activity = Activity::Idle;
     }
@@ -182,16 +200,17 @@ impl<P: Ports, W: Sink + Drop> Recording<P, W> {
         &self.ports
     }
 
-    /// Returns the record.
-    pub fn record(&self) -> &Record<W>
-        ensures { result.now ≡ self.now.record_of }
+    /// Returns the record, if there is one.
+    pub fn record(&self) -> Option<&Record<W>>
+        ensures some { IfSome result (λ log. log.now ≡ self.now.record_of) }
+        ensures none { IsNone result → self.now.record_of ≡ no_record }
     {
-        &self.log
+        self.log.as_ref()
     }
 
-    /// Returns the inner ports and the record.
-    pub fn into_parts(self) -> (P, Record<W>)
-        ensures { result ≡ (self.ports, self.record_of) }
+    /// Returns the inner ports and the record, if there is one.
+    pub fn into_parts(self) -> (P, Option<Record<W>>)
+        ensures { (result.0 ≡ self.ports) × (written_in result.1 ≡ self.record_of) }
     {
         (self.ports, self.log)
     }

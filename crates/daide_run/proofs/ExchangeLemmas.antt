@@ -4,6 +4,7 @@ use Rattle.std.specs.Prelude.{Contains}
 use Rattle.daide_protocol.specs.Wires.{SessionView}
 use Rattle.daide_io.specs.Ports.{PortCall, TurnBegins, Clock, Pulled, Offered, EvolvesBy}
 use Rattle.daide_io.specs.declared.ports.Pull.{Pull}
+use Rattle.daide_io.specs.declared.ports.Pull.TheVariants.{Got, Idle, Ended}
 use Rattle.daide_io.specs.declared.ports.Put.{Put}
 use Rattle.daide_settings.specs.declared.settings.Settings.{Settings}
 use Rattle.daide_io.specs.declared.system.Connect.TheVariants.{Ready}
@@ -11,11 +12,25 @@ use Rattle.daide_event_loop.specs.QuotaPorts.{QuotaPortsView, Meters, EvolvesWhi
 use Rattle.daide_event_loop.specs.Serving.{fresh}
 use Rattle.daide_event_loop.specs.Served.{IsServed, run_limits}
 use Rattle.daide_io.specs.System.{SystemCall, Connects}
+use Rattle.daide_log.specs.Recording.{asked_within}
 use Rattle.daide_buffered_io.specs.Buffers.{Buffer}
 use Rattle.daide_buffered_io.specs.Streams.{Transfers}
 use Rattle.daide_buffered_io.proofs.StreamLemmas.{still_moves}
 use Rattle.daide_run.specs.Exchanged.{Exchanges}
 use Rattle.daide_run.proofs.StreamLemmas.{exchanged}
+
+-- a pull moves the same bytes, however large its buffer is
+pub transfers_within : {S : Type 0} (to_give taken : S → Option (List ℕ)) (call : PortCall) (old new : Buffer S × Buffer S) →
+    Transfers to_give taken old (asked_within call) new → Transfers to_give taken old call new
+transfers_within to_give taken TurnBegins old new h = h
+transfers_within to_give taken (Clock event) old new h = h
+transfers_within to_give taken (Pulled side room (Got n) bytes) old new h =
+    record { passes = h.passes; unread = h.unread; unchanged = h.unchanged }
+transfers_within to_give taken (Pulled side room Idle bytes) old new h =
+    record { passes = h.passes; unread = h.unread; unchanged = h.unchanged }
+transfers_within to_give taken (Pulled side room Ended bytes) old new h =
+    record { passes = h.passes; unread = h.unread; unchanged = h.unchanged }
+transfers_within to_give taken (Offered side bytes put) old new h = h
 
 -- ports whose calls move the bytes of two streams, whatever else they do
 module _ {P S : Type 0} (streams : P → Buffer S × Buffer S) (to_give taken : S → Option (List ℕ))

@@ -2,7 +2,7 @@
 use Rattle.std.proofs.Common.{◌≡◌, ℕ, zero, suc, ◌+◌, ◌*◌, List, [], ◌∷◌, Option, None, Some, Result, Ok, Err, inl, inr, ap, sym, subst}
 use Rattle.std.proofs.Common.{refl, ◌∙◌}
 use Rattle.std.proofs.lemmas.List.{length-replicate}
-use Rattle.std.specs.Prelude.{IfSome, replicate}
+use Rattle.std.specs.Prelude.{replicate}
 use Rattle.std.specs.Result.{OnOk, IfErr}
 use Rattle.std.specs.declared.time.Duration.{Duration}
 use Rattle.std.specs.declared.time.Instant.{Instant}
@@ -24,7 +24,7 @@ use Rattle.daide_run.specs.declared.running.RunFault.{RunFault}
 use Rattle.daide_run.specs.declared.running.RunFault.TheVariants.{Gateway}
 use Rattle.daide_run.specs.declared.running.RunFault.TheVariants as run_faults
 use Rattle.daide_run.specs.Gateway.{Announces}
-use Rattle.daide_run.specs.Running.{HasNoSockets, RunsBy, RunsOn, RunEnds, TextRuns, RecordedTextRuns, ending_by}
+use Rattle.daide_run.specs.Running.{HasNoSockets, RunsBy, RunsOn, RunEnds, RunEndsWith, TextRuns, ending_by}
 
 -- a run on a system ends by the result of its loop
 pub ran_on : {P T : Type 0} (transition : T → SystemCall P → T → Type 0) (port_transition : P → PortCall → P → Type 0)
@@ -66,11 +66,6 @@ pub still_none : {S T : Type 0} (sockets_of : T → RunSockets S) (seconds : ℕ
     HasNoSockets seconds (sockets_of before) → HasNoSockets seconds (sockets_of now)
 still_none sockets_of seconds now before e h = subst (λ t. HasNoSockets seconds (sockets_of t)) (sym e) h
 
--- what holds of whatever value there is
-pub of_whatever : {T : Type 0} (X : Type 0) (value : Option T) → X → IfSome value (λ t. X)
-of_whatever X None h = tt
-of_whatever X (Some t) h = h
-
 -- A run on a system of which sockets are a part. Each call has its effect on them, whatever else it does, while this holds of
 -- the system, which each call keeps.
 module _ {P S T : Type 0} (to_give taken : S → Option (List ℕ)) (calls : S → Option (List StreamCall))
@@ -108,7 +103,7 @@ module _ {P S T : Type 0} (to_give taken : S → Option (List ℕ)) (calls : S �
 module _ {P S : Type 0} (to_give taken : S → Option (List ℕ)) (calls : S → Option (List StreamCall)) (pair : P → Paired S)
     (transition : P → PortCall → P → Type 0) where
   -- a run that ends well has printed `listening`
-  pub said : (settings : Settings) (failed : Type 0) (before after : Option (List ℕ))
+  said : (settings : Settings) (failed : Type 0) (before after : Option (List ℕ))
       (result : Result (Unit {0}) RunFault) → RunEnds to_give taken calls pair transition settings failed before after result →
       OnOk result (Announces failed before after)
   said settings failed before after (Ok done) ends = ends.0
@@ -120,19 +115,19 @@ module _ {P S : Type 0} (to_give taken : S → Option (List ℕ)) (calls : S →
   ends_early failed before after fault (Ok done) e = absurd (cc)
   ends_early failed before after fault (Err other) e = tt
 
-  pub text_said : (text : List ℕ) (failed : Type 0) (before after : Option (List ℕ))
-      (result : Result (Unit {0}) RunFault) → TextRuns to_give taken calls pair transition text failed before after result →
-      OnOk result (Announces failed before after)
-  text_said text failed before after result (inl h) = ends_early failed before after (run_faults.Settings h.0) result h.1
-  text_said text failed before after result (inr h) = said h.0 failed before after result h.2
-
-  pub recorded_text_said : (text : List ℕ) (failed : Type 0) (before after : Option (List ℕ))
+  said_with : {F : Type 0} (records : Option F) (settings : Settings) (failed : Type 0) (before after : Option (List ℕ))
       (result : Result (Unit {0}) RunFault) →
-      RecordedTextRuns to_give taken calls pair transition text failed before after result →
+      RunEndsWith records to_give taken calls pair transition settings failed before after result →
       OnOk result (Announces failed before after)
-  recorded_text_said text failed before after result (inl h) =
-      ends_early failed before after (run_faults.Settings h.0) result h.1
-  recorded_text_said text failed before after result (inr (settings, reads, inl h)) =
+  said_with None settings failed before after result ends = said settings failed before after result ends
+  said_with (Some folder) settings failed before after result (inl h) =
       ends_early failed before after (run_faults.Record h.0) result h.1
-  recorded_text_said text failed before after result (inr (settings, reads, inr ends)) =
-      said settings failed before after result ends
+  said_with (Some folder) settings failed before after result (inr ends) = said settings failed before after result ends
+
+  pub text_said : {F : Type 0} (records : Option F) (text : List ℕ) (failed : Type 0) (before after : Option (List ℕ))
+      (result : Result (Unit {0}) RunFault) →
+      TextRuns records to_give taken calls pair transition text failed before after result →
+      OnOk result (Announces failed before after)
+  text_said records text failed before after result (inl h) =
+      ends_early failed before after (run_faults.Settings h.0) result h.1
+  text_said records text failed before after result (inr h) = said_with records h.0 failed before after result h.2

@@ -24,11 +24,6 @@ six_digits n = padded_integral (format_spec 32 0 4 6 (2 ^ 64 - 1)) false [] (dec
 abbrev pub path_in : List ℕ → ℕ → List ℕ
 path_in folder number = folder ++ (codes "/session-" ++ (six_digits number ++ codes ".log"))
 
--- the contents of a session's file; nothing is known without a file
-abbrev pub file_contents : {F : Type 0} → (F → Option (List ℕ)) → Option F → Option (List ℕ)
-file_contents contents None = None
-file_contents contents (Some file) = contents file
-
 -- ---- the beginning of a record
 
 -- a record that has its head alone, for these settings, behind what its file had before
@@ -58,6 +53,12 @@ BeginsRecord failed number (Some address) (Some now) old new =
 abbrev pub time_begun : Option (List ℕ) → Option Moment → Option Moment
 time_begun None now = None
 time_begun (Some address) now = now
+
+-- The record of a session with this number and with a bot at this address, if it is known, and the last time in it: its
+-- head, and the comment of its beginning.
+abbrev pub Starts : Type 0 → Config → List Word → ℕ × Option SocketAddr → Option Moment → Written → Option Moment → Type 0
+Starts failed config words session now written last = (before address : Option (List ℕ)) × IsAddressOf session.1 address
+    × BeginsRecord failed session.0 address now (headed before config words) written × (last ≡ time_begun address now)
 
 -- a notice that this session has no file
 abbrev pub IsNoFileOf : ℕ → RecordNotice → Type 0

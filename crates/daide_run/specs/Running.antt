@@ -94,36 +94,24 @@ Reads text settings = judged_settings (parse_document text) ≡ Ok (given_of set
 abbrev pub IsRefused : List ℕ → SettingsError → Type 0
 IsRefused text fault = fault ≢ settings_faults.Memory → judged_settings (parse_document text) ≡ Err fault
 
--- The end of a run of a text, by the kind of end that a run of settings has: that of its settings, or at once with its
--- fault if it has none.
-abbrev pub EndsByText : (Settings → Type 0) → List ℕ → Option (List ℕ) → Option (List ℕ) → Result (Unit {0}) RunFault → Type 0
-EndsByText Kind text old new result =
-    ((fault : SettingsError) × (result ≡ Err (run_faults.Settings fault)) × IsRefused text fault × (new ≡ old))
-    ⊎ ((settings : Settings) × Reads text settings × Kind settings)
-
--- the end of a run of a text
-abbrev pub TextRuns : {P S : Type 0} → (S → Option (List ℕ)) → (S → Option (List ℕ)) →
-    (S → Option (List StreamCall)) → (P → Paired S) →
-    (P → PortCall → P → Type 0) → List ℕ → Type 0 → Option (List ℕ) → Option (List ℕ) →
-    Result (Unit {0}) RunFault → Type 0
-TextRuns to_give taken calls pair transition text failed old new result =
-    EndsByText (λ settings. RunEnds to_give taken calls pair transition settings failed old new result) text old new result
-
--- The end of a run of settings whose sessions are recorded: at once if no file can be made in the folder of the records,
--- and else that of a run of the settings.
-abbrev pub RecordedRunEnds : {P S : Type 0} → (S → Option (List ℕ)) → (S → Option (List ℕ)) →
+-- The end of a run of settings, with the folder of the records if sessions are recorded: at once if no file can be made in
+-- the folder, and else as `RunEnds` says.
+abbrev pub RunEndsWith : {F P S : Type 0} → Option F → (S → Option (List ℕ)) → (S → Option (List ℕ)) →
     (S → Option (List StreamCall)) → (P → Paired S) →
     (P → PortCall → P → Type 0) → Settings → Type 0 → Option (List ℕ) → Option (List ℕ) →
     Result (Unit {0}) RunFault → Type 0
-RecordedRunEnds to_give taken calls pair transition settings failed old new result =
+RunEndsWith None to_give taken calls pair transition settings failed old new result =
+    RunEnds to_give taken calls pair transition settings failed old new result
+RunEndsWith (Some folder) to_give taken calls pair transition settings failed old new result =
     ((cause : ErrorKind) × (result ≡ Err (Record cause)) × (new ≡ old))
     ⊎ RunEnds to_give taken calls pair transition settings failed old new result
 
--- the end of a run of a text whose sessions are recorded
-abbrev pub RecordedTextRuns : {P S : Type 0} → (S → Option (List ℕ)) → (S → Option (List ℕ)) →
+-- The end of a run of a text: that of its settings, or at once with its fault if it has none.
+abbrev pub TextRuns : {F P S : Type 0} → Option F → (S → Option (List ℕ)) → (S → Option (List ℕ)) →
     (S → Option (List StreamCall)) → (P → Paired S) →
     (P → PortCall → P → Type 0) → List ℕ → Type 0 → Option (List ℕ) → Option (List ℕ) →
     Result (Unit {0}) RunFault → Type 0
-RecordedTextRuns to_give taken calls pair transition text failed old new result =
-    EndsByText (λ settings. RecordedRunEnds to_give taken calls pair transition settings failed old new result) text old new
-    result
+TextRuns records to_give taken calls pair transition text failed old new result =
+    ((fault : SettingsError) × (result ≡ Err (run_faults.Settings fault)) × IsRefused text fault × (new ≡ old))
+    ⊎ ((settings : Settings) × Reads text settings
+    × RunEndsWith records to_give taken calls pair transition settings failed old new result)

@@ -3,14 +3,14 @@
 //! The operating system decides whether a file exists, whether one can be created, and which written bytes it keeps. No
 //! contract is about that.
 
-ghost use Rattle.std.specs.Prelude.{◌≡◌, ◌+◌, ℕ, List, Option, Some, IfOk, IfErr, IfSome, option_map, string_bytes};
+ghost use Rattle.std.specs.Prelude.{◌≡◌, ◌⊎◌, ◌+◌, Some, IfOk, IfErr, IfSome, option_map, string_bytes};
 ghost use Rattle.std.specs.Net.Text.{socket_text};
-ghost use Rattle.daide_log.specs.Recording.{HasFailed};
+ghost use Rattle.daide_log.specs.Recording.{HasFailed, no_record};
 ghost use Rattle.daide_words.specs.Words.{words_of};
-ghost use Rattle.daide_run.specs.Folder.{path_in, IsNoFileOf, IsAddressOf, BeginsRecord, headed, time_begun};
+ghost use Rattle.daide_run.specs.Folder.{path_in, IsNoFileOf, IsAddressOf, BeginsRecord, Starts, time_begun};
 
 use daide_io::Ports;
-use daide_log::record::MOST_LINES;
+use daide_log::record::{MOST_LINES, Page};
 use daide_log::{Activity, Comment, Moment, Record, RecordEnd, Recording, Sink};
 use daide_protocol::Config;
 use daide_settings::Settings;
@@ -40,11 +40,11 @@ pub enum RecordNotice {
     Full(u32),
 }
 
-/// The file of a session's record. Without a file, each write fails. Its contents are those of the file.
+/// The file of a session's record. Its contents are those of the file.
 #[derive(Drop)]
 pub struct SessionFile<F: Drop> {
     number: u32,
-    file: Option<F>,
+    file: F,
     /// The kind of the error of the last write that failed.
     cause: ErrorKind,
 }
@@ -60,22 +60,14 @@ fn noted(written: io::Result<usize>, cause: &mut ErrorKind) -> io::Result<usize>
 }
 
 impl<F: Write + Drop> Write for SessionFile<F> {
-    ghost use Rattle.daide_run.specs.Folder.{file_contents};
-
-    ghost contents = { λ f. file_contents F.contents f.file };
+    ghost contents = { λ f. F.contents f.file };
 
     fn write(&mut self, bytes: &[u8]) -> io::Result<usize> {
-        match &mut self.file {
-            Some(file) => noted(file.write(bytes), &mut self.cause),
-            None => Err(ErrorKind::NotFound.into()),
-        }
+        noted(self.file.write(bytes), &mut self.cause)
     }
 
     fn flush(&mut self) -> io::Result<()> {
-        match &mut self.file {
-            Some(file) => file.flush(),
-            None => Err(ErrorKind::NotFound.into()),
-        }
+        self.file.flush()
     }
 }
 
@@ -240,30 +232,37 @@ impl<'a, R: AllocGlobal + Files> Folder<'a, R> {
             })
     }
 
-    /// Opens the file of a session's record. Reports a failure to create it.
-    fn open_file<E: Write>(&self, number: u32, errors: &mut E) -> SessionFile<R::File>
-        ensures { result.number ≡ number }
-    {
-        let file = match self.file_of(number) {
-            Ok(file) => Some(file),
-            Err(notice) => {
-                tell(errors, notice);
-                None
-            }
-        };
-        SessionFile {
-            number,
-            file,
-            cause: ErrorKind::Other,
-        }
-    }
-
-    /// Starts the record of a session with this number and with a bot at this address, and returns its ports with the
-    /// record. The head for these settings is appended to the file, and then a comment with the address and the present
-    /// time, if both are known. The record is whole so far, unless its file did not take the head. Reports a failure to
-    /// create the file.
+    /// Starts the record of a session with this number and with a bot at this address. The head for these settings is
+    /// appended to its file, and then a comment with the address and the present time, if both are known. Returns the
+    /// record, and the time in it.
     ///
     /// Not said: that memory for the text of the address was refused if the comment is missing.
+    fn start(
+        &self,
+        session: (u32, Option<SocketAddr>),
+        now: Option<Moment>,
+    ) -> Result<(Record<SessionFile<R::File>>, Option<Moment>), RecordNotice>
+        ensures started { IfOk result (λ started. Starts (HasFailed ⟦<SessionFile<R::File> as Sink>⟧.Fails) self.now.config
+            (words_of self.now.words) session now started.0 started.1) }
+        ensures none { IfErr result (IsNoFileOf session.0) }
+    {
+        let (number, bot) = session;
+        let Ok(page) = Box::new(self.rt.alloc(), Page::new()) else {
+            return Err(RecordNotice::Unmade(number, ErrorKind::OutOfMemory));
+        };
+        let file = SessionFile {
+            number,
+            file: self.file_of(number)?,
+            cause: ErrorKind::Other,
+        };
+        let mut log = Record::new(page, file, self.config, self.words);
+        let address = address_text(self.rt.alloc(), bot);
+        let began = begin_record(&mut log, number, &address, now);
+        Ok((log, began))
+    }
+
+    /// Returns ports whose calls are recorded in the record of a session with this number and with a bot at this address
+    /// (`start`). If it can't be started, that is reported, and the ports have no record.
     pub(crate) fn begin<P: Ports, E: Write>(
         &self,
         session: (u32, Option<SocketAddr>),
@@ -272,25 +271,23 @@ impl<'a, R: AllocGlobal + Files> Folder<'a, R> {
         errors: &mut E,
     ) -> Recording<P, SessionFile<R::File>>
         ensures ports { result.ports ≡ ports }
-        ensures record { (before : Option (List ℕ)) × (address : Option (List ℕ)) × IsAddressOf session.1 address
-            × BeginsRecord (HasFailed ⟦<SessionFile<R::File> as Sink>⟧.Fails) session.0 address now
-            (headed before self.now.config (words_of self.now.words)) result.record_of
-            × (result.last ≡ time_begun address now) }
+        ensures record { (result.record_of ≡ no_record)
+            ⊎ Starts (HasFailed ⟦<SessionFile<R::File> as Sink>⟧.Fails) self.now.config (words_of self.now.words) session now
+            result.record_of result.last }
         ensures activity { result.activity ≡ Activity.Moving }
     {
-        let (number, bot) = session;
-        let mut log = Record::new(self.open_file(number, errors), self.config, self.words);
-        let address = address_text(self.rt.alloc(), bot);
-        let began = begin_record(&mut log, number, &address, now);
-        Recording::new(ports, log, began)
+        match self.start(session, now) {
+            Ok((log, began)) => Recording::new(ports, Some(log), began),
+            Err(notice) => {
+                tell(errors, notice);
+                Recording::new(ports, None, None)
+            }
+        }
     }
 }
 
-/// Reports why the record in a file is not whole, if it is not. A missing file was reported at the beginning.
+/// Reports why the record in a file is not whole, if it is not.
 fn tell_end<F: Drop, E: Write>(file: &SessionFile<F>, end: RecordEnd, errors: &mut E) {
-    if file.file.is_none() {
-        return;
-    }
     match end {
         RecordEnd::Whole => {}
         RecordEnd::Failed => tell(errors, RecordNotice::Unwritten(file.number, file.cause)),
@@ -303,14 +300,17 @@ pub(crate) fn tell_if_ended<P: Ports, F: Write + Drop, E: Write>(
     recorded: &Recording<P, SessionFile<F>>,
     errors: &mut E,
 ) {
+    let Some(record) = recorded.record() else {
+        return;
+    };
     if recorded.has_unreported_end() {
-        let record = recorded.record();
         tell_end(record.writer(), record.ending(), errors);
         recorded.note_reported();
     }
 }
 
-/// Ends a session's record. Reports why it is not whole, if that was not reported before. Returns the ports.
+/// Ends a session's record, if there is one. Reports why it is not whole, if that was not reported before. Returns the
+/// ports.
 pub(crate) fn end<P: Ports, F: Write + Drop, E: Write>(
     recorded: Recording<P, SessionFile<F>>,
     errors: &mut E,
@@ -318,10 +318,12 @@ pub(crate) fn end<P: Ports, F: Write + Drop, E: Write>(
     ensures { result ≡ recorded.ports }
 {
     let (ports, record) = recorded.into_parts();
-    let before = record.ending();
-    let (file, end) = record.finish();
-    if end != before {
-        tell_end(&file, end, errors);
+    if let Some(record) = record {
+        let before = record.ending();
+        let (file, end) = record.finish();
+        if end != before {
+            tell_end(&file, end, errors);
+        }
     }
     ports
 }

@@ -131,8 +131,7 @@ fn announce<O: Sink>(output: &mut O)
 }
 
 /// Writes that it listens, and serves until all bots were served. The caller keeps the system, so the clauses name its
-/// old and new value. If sessions are recorded, the system is one around the sockets (`RecordedSockets`), with the same
-/// relation.
+/// old and new value.
 ///
 /// `announced`: it writes `listening` and a line feed to the output, and nothing else, unless a write failed.
 ///

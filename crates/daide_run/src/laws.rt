@@ -6,6 +6,7 @@ ghost use Rattle.daide_run.specs.Accepted.{BotsAreCounted};
 
 use daide_io::Ports;
 use daide_io::duplex::Duplex;
+use daide_log::{Recording, Sink};
 use daide_sockets::ports::SocketPorts;
 
 /// Let a session have two streams that record their bytes. What it received from a side is what was read from that
@@ -23,10 +24,10 @@ pub fn sessions_exchange<S: Duplex>()
 {}
 
 /// The same holds of each session of a run, with its quota of turns. The ports are those that ship, over any two
-/// streams that record their bytes.
-pub fn served_sessions_exchange<S: Duplex + Drop>()
-    ensures { ServedSessionsExchange ⟦<SocketPorts<'static, S> as Ports>⟧.transition
-        (λ ports. (ports.bot.stream, ports.server.stream)) S.to_give S.taken }
+/// streams that record their bytes, around which a record may be.
+pub fn served_sessions_exchange<S: Duplex + Drop, W: Sink + Drop>()
+    ensures { ServedSessionsExchange ⟦<Recording<SocketPorts<'static, S>, W> as Ports>⟧.transition
+        (λ ports. (ports.ports.bot.stream, ports.ports.server.stream)) S.to_give S.taken }
 {}
 
 /// The sockets of a run count as many bots as their calls returned.

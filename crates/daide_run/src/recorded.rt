@@ -1,12 +1,11 @@
-//! A run that records each session in a folder: the system of its sockets, with a record around the ports of each
-//! session. A run without records uses the sockets' own system, and nothing of this.
+//! The system of a run: its sockets, and the folder with a record of each session, if sessions are recorded. The ports of
+//! each session record their calls if it has a record.
 
 ghost use Rattle.std.specs.Prelude.{◌≡◌, ◌⊎◌, ℕ, []};
 ghost use Rattle.daide_sockets.specs.Lingering.{GoOnFor};
 ghost use Rattle.daide_sockets.specs.Scheduling.{RunEvolves, run_state};
 
 use crate::folder::{Folder, SessionFile, end, tell_if_ended};
-use crate::running::Finish;
 use daide_io::{Connect, Network, Notice, Orders, ReadyQueue, SessionEnd, SessionStatus, System};
 use daide_log::{Moment, Recording};
 use daide_sockets::ports::SocketPorts;
@@ -23,7 +22,7 @@ fn moment_by<C: Clock>(clock: &C) -> Option<Moment> {
     Moment::from_millisecond(u64::try_from(since.as_millis()).ok()?)
 }
 
-/// The sockets of a run, the folder of its records, and the clock that gives their times.
+/// The sockets of a run, the folder of its records, if sessions are recorded, and the clock that gives their times.
 ///
 /// Not said: that the times of a record are readings of this clock. A scene of tests/records.py compares them.
 #[derive(Drop)]
@@ -37,9 +36,9 @@ pub(crate) struct RecordedSockets<
     E: Write + Drop,
 > {
     sockets: &'s mut Sockets<'w, N, E>,
-    folder: &'f Folder<'f, R>,
+    folder: Option<&'f Folder<'f, R>>,
     clock: &'f C,
-    /// When the round began.
+    /// When the round began; `None` without a folder, since only records have times.
     now: Option<Moment>,
 }
 
@@ -52,10 +51,10 @@ impl<'s, 'w, 'f, N: Network, R: AllocGlobal + Files, C: Clock, E: Write + Drop> 
     C,
     E,
 > {
-    /// Has a folder keep a record of each session over these sockets.
+    /// Makes a system over these sockets. A folder has a record of each session, if there is a folder.
     pub fn new(
         sockets: &'s mut Sockets<'w, N, E>,
-        folder: &'f Folder<'f, R>,
+        folder: Option<&'f Folder<'f, R>>,
         clock: &'f C,
     ) -> RecordedSockets<'s, 'w, 'f, N, R, C, E>
         ensures { result.sockets ≡ sockets.entry }
@@ -64,15 +63,18 @@ impl<'s, 'w, 'f, N: Network, R: AllocGlobal + Files, C: Clock, E: Write + Drop> 
             sockets,
             folder,
             clock,
-            now: moment_by(clock),
+            now: None,
         }
     }
-}
 
-impl<N: Network, R: AllocGlobal + Files, C: Clock, E: Write + Drop> Finish
-    for RecordedSockets<'_, '_, '_, N, R, C, E> {
+    /// Returns the present moment, if sessions are recorded.
+    fn moment(&self) -> Option<Moment> {
+        self.folder?;
+        moment_by(self.clock)
+    }
+
     /// Waits until the last sockets are closed. The closing sockets are advanced by rounds.
-    fn finish(&mut self)
+    pub fn finish(&mut self)
         ensures { (rounds : ℕ) × GoOnFor N.Connection.to_give N.Connection.taken
             N.Connection.calls rounds self.old.sockets.now.closings self.new.sockets.now.closings
             × ((self.new.sockets.now.closings.streams ≡ []) ⊎ (rounds ≡ u64.MAX)) }
@@ -94,7 +96,7 @@ impl<'w, N: Network, R: AllocGlobal + Files, C: Clock, E: Write + Drop> System<
     /// The times that are recorded until the next poll are that of this one.
     fn poll<A: Allocator>(&mut self, may_block: bool, ready: &mut ReadyQueue<A>) -> Orders {
         let orders = self.sockets.poll(may_block, ready);
-        self.now = moment_by(self.clock);
+        self.now = self.moment();
         orders
     }
 
@@ -138,7 +140,10 @@ impl<'w, N: Network, R: AllocGlobal + Files, C: Clock, E: Write + Drop> System<
                 let number = ports.number();
                 let session = (number, self.sockets.address_of(number));
                 let errors = &mut self.sockets.errors;
-                Connect::Ready(self.folder.begin(session, ports, self.now, errors))
+                Connect::Ready(match self.folder {
+                    Some(folder) => folder.begin(session, ports, self.now, errors),
+                    None => Recording::new(ports, None, None),
+                })
             }
             Connect::Failed => Connect::Failed,
             Connect::Pending => Connect::Pending,

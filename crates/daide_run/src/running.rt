@@ -1,8 +1,8 @@
 //! A run of a text of settings: binds, serves until all bots were served, and finishes closing.
 
-ghost use Rattle.std.specs.Prelude.{◌≡◌, [], None, IfErr, IfSome};
+ghost use Rattle.std.specs.Prelude.{◌≡◌, [], IfErr};
 ghost use Rattle.daide_log.specs.Recording.{HasFailed};
-ghost use Rattle.daide_run.specs.Running.{HasNoSockets, RunEnds, RunsOn, TextRuns, RecordedRunEnds, RecordedTextRuns, IsOfText, ending_by};
+ghost use Rattle.daide_run.specs.Running.{HasNoSockets, RunEnds, RunEndsWith, TextRuns, IsOfText, ending_by};
 ghost use Rattle.daide_sockets.specs.Rows.{AreRowsOf, closing_keys};
 ghost use Rattle.daide_sockets.specs.Scheduling.{pair_of};
 
@@ -12,7 +12,7 @@ use crate::recorded::RecordedSockets;
 use daide_buffered_io::pool::Pool;
 use daide_event_loop::ServeFault;
 use daide_io::duplex::Duplex;
-use daide_io::{Network, Ports, System};
+use daide_io::{Network, Ports};
 use daide_log::{Recording, Sink};
 use daide_settings::{Settings, SettingsError, read_settings};
 use daide_sockets::bound_sockets::{BoundSockets, sockets_on};
@@ -25,7 +25,7 @@ use daide_sockets::table::SocketTable;
 use std::alloc::Global;
 use std::io::{ErrorKind, Write};
 use std::net::{Net, SocketAddr};
-use std::rt::{Clock, Files, LibcRuntime};
+use std::rt::{Clock, Files};
 use thiserror::Error;
 
 /// Why a run does not begin, or ends early.
@@ -45,18 +45,6 @@ pub enum RunFault {
     Gateway(GatewayFault),
 }
 
-/// The system of a run, which can end: it waits until its last sockets are closed.
-pub(crate) trait Finish {
-    /// Waits until the last sockets are closed.
-    fn finish(&mut self);
-}
-
-impl<N: Network, E: Write + Drop> Finish for Sockets<'_, N, E> {
-    fn finish(&mut self) {
-        Sockets::finish(self);
-    }
-}
-
 /// Returns the result of a run from the result of its loop.
 fn ending_of(served: Result<(), ServeFault>) -> Result<(), RunFault>
     ensures { result ≡ ending_by served }
@@ -65,21 +53,6 @@ fn ending_of(served: Result<(), ServeFault>) -> Result<(), RunFault>
         Ok(()) => Ok(()),
         Err(fault) => Err(RunFault::Gateway(GatewayFault::Serve(fault))),
     }
-}
-
-/// Serves on a system, and waits until the last sockets are closed.
-fn run_on<P: Ports, S: System<P> + Finish, O: Sink>(
-    alloc: Global,
-    settings: &Settings,
-    system: &mut S,
-    output: &mut O,
-) -> Result<(), RunFault>
-    ensures { RunsOn S.transition P.transition settings.now (HasFailed O.Fails) (O.contents output.old)
-        (O.contents output.new) system.old result }
-{
-    let served = serve_on(alloc, settings, system, output);
-    system.finish();
-    ending_of(served)
 }
 
 /// What a run reports of its sessions beside their counts.
@@ -99,58 +72,8 @@ fn control_file<'a, R: Files>(rt: &'a R, settings: &'a Settings) -> Option<Contr
     }
 }
 
-/// Serves on sockets to which no bot came, and waits until the last sockets are closed.
-fn run_plain<N: Network<Connection = Connection>, O: Sink, E: Write + Drop>(
-    alloc: Global,
-    settings: &Settings,
-    sockets: &mut Sockets<'_, N, E>,
-    output: &mut O,
-) -> Result<(), RunFault>
-    requires none { HasNoSockets settings.now.stall_seconds (record {
-      came = sockets.old.acceptor.came;
-      arrivals = sockets.old.arrivals.items;
-      closing = sockets.old.closings;
-    }) }
-    requires rows { AreRowsOf sockets.old.poller.table (closing_keys sockets.old.closings.streams) }
-    ensures { RunEnds ⟦<Connection as Duplex>⟧.to_give ⟦<Connection as Duplex>⟧.taken ⟦<Connection as Duplex>⟧.calls
-        (λ ports. pair_of ports)
-        ⟦<SocketPorts<'static, Connection> as Ports>⟧.transition settings.now (HasFailed O.Fails)
-        (O.contents output.old) (O.contents output.new) result }
-{
-    run_on(alloc, settings, sockets, output)
-}
-
-/// Serves on sockets to which no bot came, with a system around them that keeps a record of each session in a folder.
-fn run_recording<
-    N: Network<Connection = Connection>,
-    R: AllocGlobal + Clock,
-    F: AllocGlobal + Files,
-    O: Sink,
-    E: Write + Drop,
->(
-    rt: &R,
-    settings: &Settings,
-    sockets: &mut Sockets<'_, N, E>,
-    folder: &Folder<'_, F>,
-    output: &mut O,
-) -> Result<(), RunFault>
-    requires none { HasNoSockets settings.now.stall_seconds (record {
-      came = sockets.old.acceptor.came;
-      arrivals = sockets.old.arrivals.items;
-      closing = sockets.old.closings;
-    }) }
-    requires rows { AreRowsOf sockets.old.poller.table (closing_keys sockets.old.closings.streams) }
-    ensures { RunEnds ⟦<Connection as Duplex>⟧.to_give ⟦<Connection as Duplex>⟧.taken ⟦<Connection as Duplex>⟧.calls
-        (λ ports. pair_of ports.ports)
-        ⟦<Recording<SocketPorts<'static, Connection>, SessionFile<F::File>> as Ports>⟧.transition settings.now
-        (HasFailed O.Fails) (O.contents output.old) (O.contents output.new) result }
-{
-    let mut system = RecordedSockets::new(sockets, folder, rt);
-    run_on(rt.alloc(), settings, &mut system, output)
-}
-
-/// Serves on sockets to which no bot came. If there is a folder, the system is one around the sockets, which keeps a
-/// record of each session there.
+/// Serves on sockets to which no bot came, and waits until the last sockets are closed. If there is a folder, it has a
+/// record of each session.
 fn serve_opened<
     N: Network<Connection = Connection>,
     R: AllocGlobal + Clock,
@@ -170,21 +93,15 @@ fn serve_opened<
       closing = sockets.old.closings;
     }) }
     requires rows { AreRowsOf sockets.old.poller.table (closing_keys sockets.old.closings.streams) }
-    ensures plain { folder.entry ≡ None →
-        RunEnds ⟦<Connection as Duplex>⟧.to_give ⟦<Connection as Duplex>⟧.taken ⟦<Connection as Duplex>⟧.calls
-        (λ ports. pair_of ports)
-        ⟦<SocketPorts<'static, Connection> as Ports>⟧.transition settings.now (HasFailed O.Fails)
-        (O.contents output.old) (O.contents output.new) result }
-    ensures recorded { IfSome folder.entry (λ folder.
-        RunEnds ⟦<Connection as Duplex>⟧.to_give ⟦<Connection as Duplex>⟧.taken ⟦<Connection as Duplex>⟧.calls
+    ensures { RunEnds ⟦<Connection as Duplex>⟧.to_give ⟦<Connection as Duplex>⟧.taken ⟦<Connection as Duplex>⟧.calls
         (λ ports. pair_of ports.ports)
         ⟦<Recording<SocketPorts<'static, Connection>, SessionFile<F::File>> as Ports>⟧.transition settings.now
-        (HasFailed O.Fails) (O.contents output.old) (O.contents output.new) result) }
+        (HasFailed O.Fails) (O.contents output.old) (O.contents output.new) result }
 {
-    match folder {
-        None => run_plain(rt.alloc(), settings, sockets, output),
-        Some(folder) => run_recording(rt, settings, sockets, folder, output),
-    }
+    let mut system = RecordedSockets::new(sockets, folder, rt);
+    let served = serve_on(rt.alloc(), settings, &mut system, output);
+    system.finish();
+    ending_of(served)
 }
 
 /// Serves over what was bound, with these settings: opens the sockets, serves on them, and finishes closing.
@@ -204,16 +121,10 @@ fn serve_bound<
     errors: E,
 ) -> Result<(), RunFault>
     requires { AreRowsOf ground.entry.2 [] }
-    ensures plain { reports.entry.folder ≡ None →
-        RunEnds ⟦<Connection as Duplex>⟧.to_give ⟦<Connection as Duplex>⟧.taken ⟦<Connection as Duplex>⟧.calls
-        (λ ports. pair_of ports)
-        ⟦<SocketPorts<'static, Connection> as Ports>⟧.transition settings.now (HasFailed O.Fails)
-        (O.contents output.old) (O.contents output.new) result }
-    ensures recorded { IfSome reports.entry.folder (λ folder.
-        RunEnds ⟦<Connection as Duplex>⟧.to_give ⟦<Connection as Duplex>⟧.taken ⟦<Connection as Duplex>⟧.calls
+    ensures { RunEnds ⟦<Connection as Duplex>⟧.to_give ⟦<Connection as Duplex>⟧.taken ⟦<Connection as Duplex>⟧.calls
         (λ ports. pair_of ports.ports)
         ⟦<Recording<SocketPorts<'static, Connection>, SessionFile<F::File>> as Ports>⟧.transition settings.now
-        (HasFailed O.Fails) (O.contents output.old) (O.contents output.new) result) }
+        (HasFailed O.Fails) (O.contents output.old) (O.contents output.new) result }
 {
     let Some(mut sockets) = sockets_on(rt.alloc(), settings, ground, errors) else {
         return Err(RunFault::Memory);
@@ -252,16 +163,10 @@ fn serve_sockets<
     output: &mut O,
     errors: &mut E,
 ) -> Result<(), RunFault>
-    ensures plain { reports.entry.folder ≡ None →
-        RunEnds ⟦<Connection as Duplex>⟧.to_give ⟦<Connection as Duplex>⟧.taken ⟦<Connection as Duplex>⟧.calls
-        (λ ports. pair_of ports)
-        ⟦<SocketPorts<'static, Connection> as Ports>⟧.transition settings.now (HasFailed O.Fails)
-        (O.contents output.old) (O.contents output.new) result }
-    ensures recorded { IfSome reports.entry.folder (λ folder.
-        RunEnds ⟦<Connection as Duplex>⟧.to_give ⟦<Connection as Duplex>⟧.taken ⟦<Connection as Duplex>⟧.calls
+    ensures { RunEnds ⟦<Connection as Duplex>⟧.to_give ⟦<Connection as Duplex>⟧.taken ⟦<Connection as Duplex>⟧.calls
         (λ ports. pair_of ports.ports)
         ⟦<Recording<SocketPorts<'static, Connection>, SessionFile<F::File>> as Ports>⟧.transition settings.now
-        (HasFailed O.Fails) (O.contents output.old) (O.contents output.new) result) }
+        (HasFailed O.Fails) (O.contents output.old) (O.contents output.new) result }
 {
     let bound = bind(rt, settings).map_err(RunFault::Gateway)?;
     let _file = control_file(rt, settings);
@@ -277,63 +182,29 @@ fn serve_sockets<
     serve_bound(rt, settings, reports, ground, output, errors)
 }
 
-/// Serves with the settings of a text: binds, opens the sockets, serves on them (`serve_on`), and finishes closing. If
-/// sessions are recorded, the same is proved of the settings of the text, unless no file can be made in the folder of the
-/// records (`run_recorded`).
-///
-/// `runs`: if it returns `Ok`, sockets to which no bot had come, and of which none closed, evolved by the calls of a
-/// whole run. If it returns a fault of serving, they are the calls of a run that was given up for it. In both cases it
-/// wrote that it listens, and `sessions_come_once` and `bots_are_counted` hold. After a fault before that it wrote
-/// nothing.
-///
-/// `untouched`: if the text gives no settings, it returns their fault, and output and standard error are unchanged.
-///
-/// Not said: which sockets and calls they are, since the run opens its sockets itself. Three causes depend on the
-/// operating system: that a name is unknown if `Name` is returned, which it never is for addresses in digits, that the
-/// address can't be listened on if `Listen` is, and that memory was refused if `Memory` is.
-pub fn run_text<R: AllocGlobal + Files + Clock + Net, O: Sink, E: Write>(
-    rt: &R,
-    text: &str,
+/// Serves with settings. If there is the path of a folder, a record of each session is kept there. `is_verbose`: whether
+/// the beginning and the end of each session are logged.
+fn serve_reported<'r, R: AllocGlobal + Files + Clock + Net, O: Sink, E: Write>(
+    rt: &'r R,
+    settings: &Settings,
+    records: Option<&'r str>,
     is_verbose: bool,
     output: &mut O,
     errors: &mut E,
 ) -> Result<(), RunFault>
-    ensures runs { TextRuns ⟦<Connection as Duplex>⟧.to_give ⟦<Connection as Duplex>⟧.taken ⟦<Connection as Duplex>⟧.calls
-        (λ ports. pair_of ports)
-        ⟦<SocketPorts<'static, Connection> as Ports>⟧.transition text.now (HasFailed O.Fails)
-        (O.contents output.old) (O.contents output.new) result }
-    ensures untouched { IfErr result (λ fault. IsOfText fault →
-        (output.new ≡ output.old) × (errors.new ≡ errors.old)) }
-{
-    match read_settings(rt.alloc(), text) {
-        Ok(settings) => {
-            let reports = SessionReports::<LibcRuntime> {
-                is_verbose,
-                folder: None,
-            };
-            serve_sockets(rt, &settings, reports, output, errors)
-        }
-        Err(fault) => Err(RunFault::Settings(fault)),
-    }
-}
-
-/// Serves with settings, and keeps a record of each session in a folder. `records` is the folder, and whether sessions are
-/// logged.
-fn serve_recorded<'r, R: AllocGlobal + Files + Clock + Net, O: Sink, E: Write>(
-    rt: &'r R,
-    settings: &Settings,
-    records: (&'r str, bool),
-    output: &mut O,
-    errors: &mut E,
-) -> Result<(), RunFault>
-    ensures { RecordedRunEnds ⟦<Connection as Duplex>⟧.to_give ⟦<Connection as Duplex>⟧.taken
-        ⟦<Connection as Duplex>⟧.calls
-        (λ ports. pair_of ports.ports)
+    ensures { RunEndsWith records ⟦<Connection as Duplex>⟧.to_give ⟦<Connection as Duplex>⟧.taken
+        ⟦<Connection as Duplex>⟧.calls (λ ports. pair_of ports.ports)
         ⟦<Recording<SocketPorts<'static, Connection>, SessionFile<R::File>> as Ports>⟧.transition settings.now
         (HasFailed O.Fails) (O.contents output.old) (O.contents output.new) result }
 {
-    let (folder, is_verbose) = records;
-    match Folder::at(rt, folder, settings) {
+    let Some(path) = records else {
+        let reports = SessionReports::<R> {
+            is_verbose,
+            folder: None,
+        };
+        return serve_sockets(rt, settings, reports, output, errors);
+    };
+    match Folder::at(rt, path, settings) {
         Ok(folder) => {
             let reports = SessionReports {
                 is_verbose,
@@ -345,22 +216,37 @@ fn serve_recorded<'r, R: AllocGlobal + Files + Clock + Net, O: Sink, E: Write>(
     }
 }
 
-/// Serves with the settings of a text, and keeps a record of each session in a folder. `records` is the folder, and
-/// whether sessions are logged.
-pub fn run_recorded<'r, R: AllocGlobal + Files + Clock + Net, O: Sink, E: Write>(
+/// Serves with the settings of a text: binds, opens the sockets, serves on them (`serve_on`), and finishes closing. If
+/// there is the path of a folder, a record of each session is kept there. `is_verbose`: whether the beginning and the end
+/// of each session are logged.
+///
+/// `runs`: if it returns `Ok`, sockets to which no bot had come, and of which none closed, evolved by the calls of a
+/// whole run. If it returns a fault of serving, they are the calls of a run that was given up for it. In both cases it
+/// wrote that it listens, and `sessions_come_once` and `bots_are_counted` hold. After a fault before that it wrote
+/// nothing. It returns `Record` only with a folder, if no file can be made in it.
+///
+/// `untouched`: if the text gives no settings, it returns their fault, and output and standard error are unchanged.
+///
+/// Not said: which sockets and calls they are, since the run opens its sockets itself. Three causes depend on the
+/// operating system: that a name is unknown if `Name` is returned, which it never is for addresses in digits, that the
+/// address can't be listened on if `Listen` is, and that memory was refused if `Memory` is.
+pub fn run_text<'r, R: AllocGlobal + Files + Clock + Net, O: Sink, E: Write>(
     rt: &'r R,
-    settings_text: &str,
-    records: (&'r str, bool),
+    text: &str,
+    records: Option<&'r str>,
+    is_verbose: bool,
     output: &mut O,
     errors: &mut E,
 ) -> Result<(), RunFault>
-    ensures { RecordedTextRuns ⟦<Connection as Duplex>⟧.to_give ⟦<Connection as Duplex>⟧.taken ⟦<Connection as Duplex>⟧.calls
-        (λ ports. pair_of ports.ports)
-        ⟦<Recording<SocketPorts<'static, Connection>, SessionFile<R::File>> as Ports>⟧.transition settings_text.now
+    ensures runs { TextRuns records ⟦<Connection as Duplex>⟧.to_give ⟦<Connection as Duplex>⟧.taken
+        ⟦<Connection as Duplex>⟧.calls (λ ports. pair_of ports.ports)
+        ⟦<Recording<SocketPorts<'static, Connection>, SessionFile<R::File>> as Ports>⟧.transition text.now
         (HasFailed O.Fails) (O.contents output.old) (O.contents output.new) result }
+    ensures untouched { IfErr result (λ fault. IsOfText fault →
+        (output.new ≡ output.old) × (errors.new ≡ errors.old)) }
 {
-    match read_settings(rt.alloc(), settings_text) {
-        Ok(settings) => serve_recorded(rt, &settings, records, output, errors),
-        Err(error) => Err(RunFault::Settings(error)),
+    match read_settings(rt.alloc(), text) {
+        Ok(settings) => serve_reported(rt, &settings, records, is_verbose, output, errors),
+        Err(fault) => Err(RunFault::Settings(fault)),
     }
 }

@@ -17,22 +17,12 @@ use daide_sockets::ports::SocketPorts;
 /// for whose bytes it has room, its socket is not readable, and nothing was read ahead. To each side for which bytes are
 /// queued or buffered, its socket is not writable. The poll ends by the nearest deadline of the session.
 ///
-/// The ports are those that ship, over any two streams, and `N` is the network. The calls of the run have their effect on
+/// The ports are those that ship, over any two streams, around which a record may be, and `N` is the network. The calls of the run have their effect on
 /// it and on the table as the sockets' own `transition` says (`Wakes`).
 ///
 /// Not said: that the network reports what becomes readable or writable after a call that would have blocked. That depends
 /// on the network.
-pub fn no_wakeup_is_lost<S: Duplex + Drop, N: Network>()
-    ensures { NoWakeupIsLost ⟦<SocketPorts<'static, S> as Ports>⟧.transition (λ ports. record {
-      bot = ports.bot;
-      server = ports.server;
-      reading = ports.idle.reading;
-      im_due = ports.im_due;
-    }) S.calls N.transition }
-{}
-
-/// The same of a run that records its sessions: the ports are those around which a record is, over any two streams.
-pub fn no_wakeup_is_lost_beside_records<S: Duplex + Drop, N: Network, W: Sink + Drop>()
+pub fn no_wakeup_is_lost<S: Duplex + Drop, N: Network, W: Sink + Drop>()
     ensures { NoWakeupIsLost ⟦<Recording<SocketPorts<'static, S>, W> as Ports>⟧.transition (λ ports. record {
       bot = ports.ports.bot;
       server = ports.ports.server;
@@ -44,12 +34,7 @@ pub fn no_wakeup_is_lost_beside_records<S: Duplex + Drop, N: Network, W: Sink + 
 /// No bot waits. Take a poll of a run over sockets that may block, after one round or more, while one more bot may be accepted
 /// and a place is free. It takes no time while an accept is due: while the listener is ready and no pause of accepts is under
 /// way, or the pause is over. In each round that accepts exactly one accept is made, if it is due (`each_bot_has_room`).
-pub fn no_bot_waits<S: Duplex + Drop, N: Network>()
-    ensures { NoBotWaits ⟦<SocketPorts<'static, S> as Ports>⟧.transition timers_of N.transition }
-{}
-
-/// The same of a run that records its sessions.
-pub fn no_bot_waits_beside_records<S: Duplex + Drop, N: Network, W: Sink + Drop>()
+pub fn no_bot_waits<S: Duplex + Drop, N: Network, W: Sink + Drop>()
     ensures { NoBotWaits ⟦<Recording<SocketPorts<'static, S>, W> as Ports>⟧.transition (λ ports. timers_of ports.ports)
         N.transition }
 {}
@@ -60,13 +45,7 @@ pub fn no_bot_waits_beside_records<S: Duplex + Drop, N: Network, W: Sink + Drop>
 /// and then only connects for its bot (`AcceptsThenConnects`). The rows of both sockets are those of the place.
 ///
 /// A run has at most 2^32 - 1 bots.
-pub fn each_bot_has_room<S: Duplex + Drop, N: Network>()
-    ensures { EachBotHasRoom ⟦<SocketPorts<'static, S> as Ports>⟧.transition N.transition S.to_give S.taken S.calls
-        (λ ports. ports) }
-{}
-
-/// The same of a run that records its sessions.
-pub fn each_bot_has_room_beside_records<S: Duplex + Drop, N: Network, W: Sink + Drop>()
+pub fn each_bot_has_room<S: Duplex + Drop, N: Network, W: Sink + Drop>()
     ensures { EachBotHasRoom ⟦<Recording<SocketPorts<'static, S>, W> as Ports>⟧.transition N.transition S.to_give S.taken
         S.calls (λ ports. ports.ports) }
 {}
@@ -81,12 +60,7 @@ pub fn each_bot_has_room_beside_records<S: Duplex + Drop, N: Network, W: Sink + 
 /// The calls of the run have their effect on the network and the table (`Wakes`), and schedule (`Schedules`), as the sockets'
 /// own `transition` says: so each session began with the timeouts of the run, which are those of the settings
 /// (`Sockets::new`: `idle_time`, `stall_time`).
-pub fn no_session_waits_for_ever<S: Duplex + Drop, N: Network>()
-    ensures { NoSessionWaitsForEver ⟦<SocketPorts<'static, S> as Ports>⟧.transition timers_of S.calls N.transition }
-{}
-
-/// The same of a run that records its sessions.
-pub fn no_session_waits_for_ever_beside_records<S: Duplex + Drop, N: Network, W: Sink + Drop>()
+pub fn no_session_waits_for_ever<S: Duplex + Drop, N: Network, W: Sink + Drop>()
     ensures { NoSessionWaitsForEver ⟦<Recording<SocketPorts<'static, S>, W> as Ports>⟧.transition
         (λ ports. timers_of ports.ports) S.calls N.transition }
 {}
@@ -94,12 +68,7 @@ pub fn no_session_waits_for_ever_beside_records<S: Duplex + Drop, N: Network, W:
 /// The timeouts of a session stay while no byte moves. Take any calls of a session's ports in a run by which no byte comes
 /// from the peer of a side or goes to it (`IsQuietFor`). However many turns they are, and whatever the other side does, the
 /// silence of the peer is over at the same moment as before, and so is a stall timeout that runs, unless the wire fails.
-pub fn timeouts_stay<S: Duplex + Drop>()
-    ensures { TimeoutsStay ⟦<SocketPorts<'static, S> as Ports>⟧.transition timers_of }
-{}
-
-/// The same of a run that records its sessions.
-pub fn timeouts_stay_beside_records<S: Duplex + Drop, W: Sink + Drop>()
+pub fn timeouts_stay<S: Duplex + Drop, W: Sink + Drop>()
     ensures { TimeoutsStay ⟦<Recording<SocketPorts<'static, S>, W> as Ports>⟧.transition (λ ports. timers_of ports.ports) }
 {}
 
@@ -110,12 +79,7 @@ pub fn timeouts_stay_beside_records<S: Duplex + Drop, W: Sink + Drop>()
 /// deadlines, and leaves its place. It holds of each session of a run, whichever timeouts its settings have.
 ///
 /// Not said: how long a peer may go on that takes a byte before each stall timeout is over.
-pub fn deadlines_pass_seldom<S: Duplex + Drop, N: Network>()
-    ensures { DeadlinesPassSeldom ⟦<SocketPorts<'static, S> as Ports>⟧.transition timers_of N.transition }
-{}
-
-/// The same of a run that records its sessions.
-pub fn deadlines_pass_seldom_beside_records<S: Duplex + Drop, N: Network, W: Sink + Drop>()
+pub fn deadlines_pass_seldom<S: Duplex + Drop, N: Network, W: Sink + Drop>()
     ensures { DeadlinesPassSeldom ⟦<Recording<SocketPorts<'static, S>, W> as Ports>⟧.transition
         (λ ports. timers_of ports.ports) N.transition }
 {}

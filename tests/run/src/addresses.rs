@@ -152,7 +152,7 @@ fn serves_one<R: AllocGlobal + Files + Clock + Net>(
         bot: None,
     };
     let mut errors = Vec::new(rt.alloc());
-    let ended = run_text(rt, settings.as_str(), false, &mut output, &mut errors);
+    let ended = run_text(rt, settings.as_str(), None, false, &mut output, &mut errors);
     let is_quiet = errors.is_empty() && output.text.as_slice() == b"listening\n".as_slice();
     holds(ended.is_ok() && is_quiet && output.bot.is_some(), "the run")
 }

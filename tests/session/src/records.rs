@@ -3,7 +3,8 @@
 use crate::relays::{NEVER, OPENS, QUIET};
 use daide_frame::side::Side;
 use daide_gate::{
-    Config, Ports, Pull, Record, RecordEnd, Recording, RelayEnd, Session, Words, check_log, relay,
+    Config, Ports, Pull, Record, RecordEnd, Recording, RelayEnd, Session, Sink, Words, check_log,
+    record, relay,
 };
 use daide_test_support::memory_ports::{Acceptance, MemoryPorts, Script, ScriptedRead};
 use daide_test_support::rows::{holds, same};
@@ -83,19 +84,37 @@ fn words_of(is_worded: bool) -> Words {
     if is_worded { two_words() } else { Words::new() }
 }
 
+/// Returns a record without a call, over a writer.
+pub fn record_over<W: Sink + Drop>(
+    alloc: Global,
+    writer: W,
+    words: Words,
+) -> Result<Record<W>, Fail> {
+    let page = Box::new(alloc, record::Page::new())?;
+    Ok(Record::new(page, writer, LIMITS, words))
+}
+
+/// Returns the record of recorded ports and how it ended.
+pub fn finished<P: Ports, W: Sink + Drop>(ports: Recording<P, W>) -> Result<(W, RecordEnd), Fail> {
+    let (_, record) = ports.into_parts();
+    match record {
+        Some(record) => Ok(record.finish()),
+        None => Err(Fail::new("no record")),
+    }
+}
+
 /// Returns the record of a session, which is whole.
 fn written(alloc: Global, row: &Recorded) -> Result<Vec<u8>, Fail> {
     let mut session = Session::with_words(alloc, LIMITS, words_of(row.is_worded))?;
     let ports = MemoryPorts::new(alloc, row.bot, row.server, row.quiet);
-    let record = Record::new(Vec::new(alloc), LIMITS, words_of(row.is_worded));
-    let mut ports = Recording::new(ports, record, None);
+    let record = record_over(alloc, Vec::new(alloc), words_of(row.is_worded))?;
+    let mut ports = Recording::new(ports, Some(record), None);
     same(
         &relay(&mut session, &mut ports, 9),
         &RelayEnd::Closed,
         &"the end",
     )?;
-    let (_, record) = ports.into_parts();
-    let (text, ending) = record.finish();
+    let (text, ending) = finished(ports)?;
     same(&ending, &RecordEnd::Whole, &"the record")?;
     Ok(text)
 }
@@ -152,8 +171,8 @@ fn writer_that_fails_changes_no_answer(rt: HostRuntime) -> Result<(), Fail> {
         failed: false,
         taken: 0,
     };
-    let record = Record::new(broken, LIMITS, Words::new());
-    let mut ports = Recording::new(ports, record, None);
+    let record = record_over(alloc, broken, Words::new())?;
+    let mut ports = Recording::new(ports, Some(record), None);
     let mut buffer = [0; 2000];
     for (pull, ending) in [
         (Pull::Got(1024), RecordEnd::Whole),
@@ -164,9 +183,29 @@ fn writer_that_fails_changes_no_answer(rt: HostRuntime) -> Result<(), Fail> {
         (Pull::Idle, RecordEnd::Failed),
     ] {
         same(&ports.pull(Side::Bot, &mut buffer), &pull, &"the answer")?;
-        same(&ports.record().ending(), &ending, &"the record")?;
+        match ports.record() {
+            Some(record) => same(&record.ending(), &ending, &"the record")?,
+            None => return Err(Fail::new("no record")),
+        }
     }
-    let (_, record) = ports.into_parts();
-    let (broken, end) = record.finish();
+    let (broken, end) = finished(ports)?;
     same(&(broken.taken, end), &(0, RecordEnd::Failed), &"the end")
+}
+
+/// Ports without a record return what the inner ports return, and report no end of a record.
+#[test]
+fn ports_without_a_record_return_the_same(rt: HostRuntime) -> Result<(), Fail> {
+    let alloc = rt.alloc();
+    let mut inner = MemoryPorts::new(alloc, LONG, QUIET, NEVER);
+    let ports = MemoryPorts::new(alloc, LONG, QUIET, NEVER);
+    let mut ports: Recording<MemoryPorts, Vec<u8>> = Recording::new(ports, None, None);
+    for _ in 0..7 {
+        let (mut one, mut other) = ([0; 1000], [0; 1000]);
+        let pull = inner.pull(Side::Bot, &mut one);
+        same(&ports.pull(Side::Bot, &mut other), &pull, &"the answer")?;
+        holds(one == other, "the bytes")?;
+        same(&ports.clock(), &inner.clock(), &"the clock")?;
+    }
+    holds(!ports.has_unreported_end(), "no end")?;
+    holds(ports.record().is_none(), "no record")
 }

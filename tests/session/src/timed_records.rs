@@ -1,23 +1,17 @@
 //! Records with times, over ports in memory. The times are those of `date -u`.
 
+use crate::records::{finished, record_over};
 use crate::relays::{NEVER, QUIET};
 use daide_frame::side::Side;
 use daide_gate::{
-    Comment, Config, Connect, Moment, Notice, Orders, Ports, Pull, Record, RecordEnd, Recording,
-    SessionEnd, SessionStatus, System, Words, check_log,
+    Comment, Connect, Moment, Notice, Orders, Ports, Pull, RecordEnd, Recording, SessionEnd,
+    SessionStatus, System, Words, check_log,
 };
 use daide_io::ready_queue::ReadyQueue;
 use daide_test_support::memory_ports::{MemoryPorts, Script, ScriptedRead};
 use daide_test_support::rows::{holds, same};
 use std::alloc::{Allocator, Global};
 use std::test::Fail;
-
-/// The limits of each session in these tests.
-const LIMITS: Config = Config {
-    top_level: 60,
-    max_body: 1024,
-    max_depth: 16,
-};
 
 /// The head of a record with these limits.
 const HEAD: &[u8] = b"daide-log 2\nconfig 60 1024 16 1 0\n";
@@ -43,7 +37,7 @@ fn moment(millisecond: u64) -> Result<Moment, Fail> {
 #[test]
 fn moments_are_written(rt: HostRuntime) -> Result<(), Fail> {
     for (millisecond, text) in &MOMENTS {
-        let mut record = Record::new(Vec::new(rt.alloc()), LIMITS, Words::new());
+        let mut record = record_over(rt.alloc(), Vec::new(rt.alloc()), Words::new())?;
         record.comment(Comment::Timed(moment(*millisecond)?.utc()));
         let (written, ending) = record.finish();
         same(&ending, &RecordEnd::Whole, &"the record")?;
@@ -115,10 +109,10 @@ const REPORT: &str = "15 1 bot IM 4 relay\nrelayed 1 prn 0 huh 0 faults 0\n";
 /// Returns the record of a bot's IM, whose bytes are pulled one by one.
 fn timed(alloc: Global) -> Result<Vec<u8>, Fail> {
     let began = moment(BEGAN)?;
-    let mut record = Record::new(Vec::new(alloc), LIMITS, Words::new());
+    let mut record = record_over(alloc, Vec::new(alloc), Words::new())?;
     record.comment(Comment::Begun(3, "127.0.0.1:50000\n\u{7f}", began.utc()));
     let ports = MemoryPorts::new(alloc, OPENS_ALONE, QUIET, NEVER);
-    let mut ports = Recording::new(ports, record, Some(began));
+    let mut ports = Recording::new(ports, Some(record), Some(began));
     let mut buffer = [0; 1];
     for after in AFTER {
         ports.begin_turn(0, &mut Turns, Some(moment(BEGAN.saturating_add(after))?));
@@ -130,8 +124,7 @@ fn timed(alloc: Global) -> Result<Vec<u8>, Fail> {
     }
     ports.begin_turn(0, &mut Turns, Some(moment(BEGAN.saturating_add(1000))?));
     same(&ports.pull(Side::Bot, &mut buffer), &Pull::Idle, &"no byte")?;
-    let (_, record) = ports.into_parts();
-    let (text, ending) = record.finish();
+    let (text, ending) = finished(ports)?;
     same(&ending, &RecordEnd::Whole, &"the record")?;
     Ok(text)
 }
@@ -158,7 +151,7 @@ const LONG_BEGUN: &str =
 /// Of an address the first 64 bytes are written.
 #[test]
 fn long_address_is_cut(rt: HostRuntime) -> Result<(), Fail> {
-    let mut record = Record::new(Vec::new(rt.alloc()), LIMITS, Words::new());
+    let mut record = record_over(rt.alloc(), Vec::new(rt.alloc()), Words::new())?;
     record.comment(Comment::Begun(7, LONG_ADDRESS, moment(0)?.utc()));
     let (written, ending) = record.finish();
     same(&ending, &RecordEnd::Whole, &"the record")?;
