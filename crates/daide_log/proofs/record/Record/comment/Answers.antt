@@ -1,5 +1,5 @@
-use Rattle.std.proofs.Common.{rules}
-use Rattle.daide_log.proofs.Common.{◌≡◌, ◌<◌, sym, ◌∙◌, append_known, Whole, Failed, most_lines, HasFailed}
+use Rattle.std.proofs.Common.{rules, subst}
+use Rattle.daide_log.proofs.Common.{◌≡◌, ◌<◌, ◌++◌, ℕ, List, sym, ◌∙◌, append_known, Whole, Failed, most_lines, HasFailed}
 use Rattle.daide_log.specs.RecordItem.{comment_line}
 use Rattle.daide_log.proofs.PauseLemmas.{line_got, page_got}
 use Rattle.daide_log.proofs.record.Record.comment.Goals as goal
@@ -9,10 +9,13 @@ returns-then-eq g c =
     let still : c.make_room-self-inside.result ≡ Whole = search rules in
     let old : c.args.self.now.ending ≡ Whole = search rules in
     let few : c.args.self.now.lines < most_lines = search rules in
-    let view : c.args.self.now.text ≡ append_known (g.W.Write.contents c.self.inside.writer) c.self.inside.held.items =
+    let view : c.args.self.now.text ≡ append_known (g.W.Write.contents c.self.inside.writer) c.deref_mut.result.now.items =
     search rules in
+    let held : c.make_room-self-inside.new.held.items ≡ c.deref_mut-then-eq.result.now.items = search rules in
+    let put = subst (λ (l : List ℕ). c.put_comment.new.line.items ≡ l ++ comment_line c.args.comment) (sym held)
+    c.put_comment.ensures in
     let text = page_got (g.W.Write.contents c.self.inside.writer) (g.W.Write.contents c.make_room-self-inside.new.writer)
-    c.args.self.now.text c.self.inside.held.items c.make_room-self-inside.new.held.items c.put_comment.new.line.items
+    c.args.self.now.text c.deref_mut.result.now.items c.make_room-self-inside.new.held.items c.put_comment.new.line.items
     (comment_line c.args.comment) view
-    (c.make_room-self-inside.ensures.kept (λ e. absurd (let no : Whole ≡ Failed = sym still ∙ e in cc))) c.put_comment.ensures in
+    (c.make_room-self-inside.ensures.kept (λ e. absurd (let no : Whole ≡ Failed = sym still ∙ e in cc))) put in
     line_got (HasFailed g.W.Sink.Fails) c.args.self.now _ (comment_line c.args.comment) old still few (search rules) text
