@@ -48,10 +48,9 @@ returns-clause-stops g c =
     let polled = c.poll_places.ensures.polls in
     let control = rw (c.poll_places.ensures.same, c.note_capacity.ensures.same) at c.tidy.ensures.control in
     let more = c.wake_stopped.ensures in
-    rw (c.take_orders-orders.ensures.same, c.tidy.ensures.same, c.poll_places.ensures.same, c.note_capacity.ensures.same)
-    (λ stops was. (
+    λ stops was. (
       polled.0 ++ more.0,
       more.1 ∙ ap (λ (q : ReadyView). woken_all more.0 q) polled.1 ∙ sym (woken_both polled.0 more.0 _),
       λ place lt. among_later place polled.0 more.0 (more.2 stops
           (c.stops_now-was_stopped.ensures ∙ ap (λ (k : Control g.row.N-Connection.Denot). k.stops_now) control ∙ was) place lt),
-    ))
+    )
