@@ -1,5 +1,5 @@
-use Rattle.std.proofs.Common.{rules, subst}
-use Rattle.daide_log.proofs.Common.{◌≡◌, ◌<◌, ◌++◌, ℕ, List, sym, ◌∙◌, append_known, Whole, Failed, most_lines, HasFailed}
+use Rattle.std.proofs.Common.{rules}
+use Rattle.daide_log.proofs.Common.{◌≡◌, ◌<◌, ◌++◌, ℕ, List, sym, ◌∙◌, subst, append_known, Whole, Failed, most_lines, HasFailed}
 use Rattle.daide_log.specs.RecordItem.{comment_line}
 use Rattle.daide_log.proofs.PauseLemmas.{line_got, page_got}
 use Rattle.daide_log.proofs.record.Record.comment.Goals as goal
