@@ -120,7 +120,7 @@ fn serve_bound<
     output: &mut O,
     errors: E,
 ) -> Result<(), RunFault>
-    requires { AreRowsOf ground.entry.2 [] }
+    requires { AreRowsOf ground.2 [] }
     ensures { RunEnds ⟦<Connection as Duplex>⟧.to_give ⟦<Connection as Duplex>⟧.taken ⟦<Connection as Duplex>⟧.calls
         (λ ports. pair_of ports.ports)
         ⟦<Recording<SocketPorts<'static, Connection>, SessionFile<F::File>> as Ports>⟧.transition settings.now
