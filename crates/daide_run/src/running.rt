@@ -203,7 +203,7 @@ fn serve_bound<
     output: &mut O,
     errors: E,
 ) -> Result<(), RunFault>
-    requires { AreRowsOf ground.entry.2 [] }
+    requires { AreRowsOf ground.2 [] }
     ensures plain { reports.entry.folder ≡ None →
         RunEnds ⟦<Connection as Duplex>⟧.to_give ⟦<Connection as Duplex>⟧.taken ⟦<Connection as Duplex>⟧.calls
         (λ ports. pair_of ports)
