@@ -119,10 +119,9 @@ module _ {P S : Type 0} (to_give taken : S → Option (List ℕ)) (calls : S →
       (result : Result (Unit {0}) RunFault) →
       RunEndsWith records to_give taken calls pair transition settings failed before after result →
       OnOk result (Announces failed before after)
-  said_with None settings failed before after result ends = said settings failed before after result ends
-  said_with (Some folder) settings failed before after result (inl h) =
-      ends_early failed before after (run_faults.Record h.0) result h.1
-  said_with (Some folder) settings failed before after result (inr ends) = said settings failed before after result ends
+  said_with records settings failed before after result (inl ends) = said settings failed before after result ends
+  said_with records settings failed before after result (inr h) =
+      ends_early failed before after (run_faults.Record h.2) result h.3
 
   pub text_said : {F : Type 0} (records : Option F) (text : List ℕ) (failed : Type 0) (before after : Option (List ℕ))
       (result : Result (Unit {0}) RunFault) →

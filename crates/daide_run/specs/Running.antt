@@ -1,5 +1,5 @@
 -- The effect of a run, from its settings on. (own)
-use Rattle.std.specs.Prelude.{◌≡◌, ◌≢◌, ◌⊎◌, ℕ, List, Option, Result, Ok, Err}
+use Rattle.std.specs.Prelude.{◌≡◌, ◌≢◌, ◌⊎◌, ℕ, List, Option, Some, Result, Ok, Err}
 use Rattle.std.specs.declared.io.ErrorKind.{ErrorKind}
 use Rattle.std.specs.declared.time.Duration.{Duration}
 use Rattle.toml.specs.Parse.{parse_document}
@@ -94,17 +94,15 @@ Reads text settings = judged_settings (parse_document text) ≡ Ok (given_of set
 abbrev pub IsRefused : List ℕ → SettingsError → Type 0
 IsRefused text fault = fault ≢ settings_faults.Memory → judged_settings (parse_document text) ≡ Err fault
 
--- The end of a run of settings, with the folder of the records if sessions are recorded: at once if no file can be made in
--- the folder, and else as `RunEnds` says.
+-- The end of a run of settings, with the folder of the records if sessions are recorded: as `RunEnds` says, or at once if
+-- no file can be made in the folder.
 abbrev pub RunEndsWith : {F P S : Type 0} → Option F → (S → Option (List ℕ)) → (S → Option (List ℕ)) →
     (S → Option (List StreamCall)) → (P → Paired S) →
     (P → PortCall → P → Type 0) → Settings → Type 0 → Option (List ℕ) → Option (List ℕ) →
     Result (Unit {0}) RunFault → Type 0
-RunEndsWith None to_give taken calls pair transition settings failed old new result =
+RunEndsWith {F} records to_give taken calls pair transition settings failed old new result =
     RunEnds to_give taken calls pair transition settings failed old new result
-RunEndsWith (Some folder) to_give taken calls pair transition settings failed old new result =
-    ((cause : ErrorKind) × (result ≡ Err (Record cause)) × (new ≡ old))
-    ⊎ RunEnds to_give taken calls pair transition settings failed old new result
+    ⊎ ((folder : F) × (records ≡ Some folder) × (cause : ErrorKind) × (result ≡ Err (Record cause)) × (new ≡ old))
 
 -- The end of a run of a text: that of its settings, or at once with its fault if it has none.
 abbrev pub TextRuns : {F P S : Type 0} → Option F → (S → Option (List ℕ)) → (S → Option (List ℕ)) →

@@ -139,11 +139,11 @@ impl<'w, N: Network, R: AllocGlobal + Files, C: Clock, E: Write + Drop> System<
             Connect::Ready(ports) => {
                 let number = ports.number();
                 let session = (number, self.sockets.address_of(number));
+                let Some(folder) = self.folder else {
+                    return Connect::Ready(Recording::new(ports, None, None));
+                };
                 let errors = &mut self.sockets.errors;
-                Connect::Ready(match self.folder {
-                    Some(folder) => folder.begin(session, ports, self.now, errors),
-                    None => Recording::new(ports, None, None),
-                })
+                Connect::Ready(folder.begin(session, ports, self.now, errors))
             }
             Connect::Failed => Connect::Failed,
             Connect::Pending => Connect::Pending,

@@ -192,7 +192,7 @@ fn serve_reported<'r, R: AllocGlobal + Files + Clock + Net, O: Sink, E: Write>(
     output: &mut O,
     errors: &mut E,
 ) -> Result<(), RunFault>
-    ensures { RunEndsWith records ⟦<Connection as Duplex>⟧.to_give ⟦<Connection as Duplex>⟧.taken
+    ensures { RunEndsWith records.entry ⟦<Connection as Duplex>⟧.to_give ⟦<Connection as Duplex>⟧.taken
         ⟦<Connection as Duplex>⟧.calls (λ ports. pair_of ports.ports)
         ⟦<Recording<SocketPorts<'static, Connection>, SessionFile<R::File>> as Ports>⟧.transition settings.now
         (HasFailed O.Fails) (O.contents output.old) (O.contents output.new) result }
@@ -238,7 +238,7 @@ pub fn run_text<'r, R: AllocGlobal + Files + Clock + Net, O: Sink, E: Write>(
     output: &mut O,
     errors: &mut E,
 ) -> Result<(), RunFault>
-    ensures runs { TextRuns records ⟦<Connection as Duplex>⟧.to_give ⟦<Connection as Duplex>⟧.taken
+    ensures runs { TextRuns records.entry ⟦<Connection as Duplex>⟧.to_give ⟦<Connection as Duplex>⟧.taken
         ⟦<Connection as Duplex>⟧.calls (λ ports. pair_of ports.ports)
         ⟦<Recording<SocketPorts<'static, Connection>, SessionFile<R::File>> as Ports>⟧.transition text.now
         (HasFailed O.Fails) (O.contents output.old) (O.contents output.new) result }

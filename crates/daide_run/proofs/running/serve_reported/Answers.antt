@@ -1,8 +1,11 @@
-use Rattle.std.proofs.Common.{inl, inr, refl}
+use Rattle.std.proofs.Common.{inl, inr, refl, rules}
 use Rattle.daide_run.proofs.running.serve_reported.Goals as goal
 
+pub returns-in_default : goal.returns-in_default
+returns-in_default g c = inl c.serve_sockets.ensures
+
 pub returns-in-Ok : goal.returns-in-Ok
-returns-in-Ok g c = inr c.serve_sockets.ensures
+returns-in-Ok g c = inl c.serve_sockets-in-Ok.ensures
 
 pub returns-in-Err : goal.returns-in-Err
-returns-in-Err g c = inl (c.in-Err.cause, refl, refl)
+returns-in-Err g c = inr (c.in-Some.path, search rules, c.in-Err.cause, refl, refl)
