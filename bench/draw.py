@@ -3,9 +3,9 @@
 
     bench/draw.py [--check]
 
-Each file there is drawn as the picture of its name. `layers`, `session-machine`, `session-life` and `message` are
-diagrams. `proofs` has one stacked bar per crate. Any other file is a table of figures and is drawn as bars, so a new one
-needs no code. With `--check` nothing is written, and the status is 1 if a picture is not the one of its figures, or has
+Each file there is drawn as the picture of its name. `layers`, `session-machine`, `session-life`, `message` and `round`
+are diagrams. `proofs` has one stacked bar per crate. Any other file is a table of figures and is drawn as bars, so a
+new one needs no code. With `--check` nothing is written, and the status is 1 if a picture is not the one of its figures, or has
 none. Lines that begin with `#` contain the picture's title and the source of its figures. The same data give the same
 bytes. The pictures follow the reader's light or dark colour scheme.
 """
@@ -270,13 +270,40 @@ def message(notes, _columns, rows):
     return picture
 
 
+def one_round(notes, columns, rows):
+    """Draws the calls of a round from the top down, each with what it does and with the queue after it."""
+    picture = Picture(notes)
+    y = picture.top + 12
+    for x, name in zip((20, 330, 604, 700), (columns[0], *columns[2:])):
+        picture.text(x, y, name, "faint", 12)
+    y += 14
+    for place, (call, result, what, *queued) in enumerate(rows):
+        picture.box(20, y, 290, 40, "proved" if call and "poll" not in call else "trusted")
+        picture.text(32, y + 25, call or "before the round", "ink" if call else "faint",
+                     family="monospace" if call else "inherit")
+        if result:
+            picture.text(300, y + 25, result, "faint", 12, anchor="end", family="monospace")
+        lines = what.split(" / ")
+        for line, words in enumerate(lines):
+            picture.text(330, y + (25 if len(lines) == 1 else 17 + 16 * line), words, size=12)
+        for x, bot in zip((604, 700), queued):
+            picture.bar(x, y + 8, 76, 24, "axis")
+            if bot:
+                picture.text(x + 38, y + 25, bot, anchor="middle", weight="bold", family="monospace")
+        if place + 1 < len(rows):
+            picture.arrow((165, y + 40), (165, y + 46))
+        y += 48
+    picture.text(20, y + 12, notes["end"], "faint", 12)
+    return picture
+
+
 def main():
     """Draws every file of figures. With --check writes nothing, and fails if a picture is not the one of its figures."""
     arguments = argparse.ArgumentParser(description=main.__doc__)
     arguments.add_argument("--check", action="store_true", help="compare docs/img with the figures, and write nothing")
     is_check = arguments.parse_args().check
     diagrams = {"layers": layers, "session-machine": session_machine, "session-life": session_life, "message": message,
-                "proofs": proofs}
+                "proofs": proofs, "round": one_round}
     stale = []
     for path in sorted((HERE / "figures").glob("*.csv")):
         text = diagrams.get(path.stem, bars)(*read(path)).whole()
