@@ -15,21 +15,21 @@ ghost use Rattle.daide_sockets.specs.Accepting.{AsksAtMostOnce, BringsNoBot, Con
 ghost use Rattle.daide_sockets.specs.Beside.{listener_watched};
 ghost use Rattle.daide_sockets.specs.KeptRows.{ChangesRows};
 ghost use Rattle.daide_sockets.specs.Pairing.{ConnectsTo, StaysPending, IsFreshConnect, IsFresh, IsJoined, pending_connects};
-ghost use Rattle.daide_sockets.specs.Present.{HasRoomForOne};
+ghost use Rattle.daide_sockets.specs.Present.{HasRoomForOne, bot_from, hosts_of};
 ghost use Rattle.daide_sockets.specs.Table.{listener_key, merged, report_at, watching};
 ghost use Rattle.daide_sockets.specs.Timers.{BeginsAt, timers_of};
 ghost use Rattle.daide_sockets.specs.Times.{IsAfter, IsStallEnd, is_past};
 
 use crate::poller::Poller;
 use crate::ports::SocketPorts;
-use crate::present::Present;
+use crate::present::{Bot, Present};
 use crate::socket::Socket;
 use crate::table::{SocketTable, after, is_past, merged};
 use daide_buffered_io::pool::Pool;
 use daide_buffered_io::readiness::Readiness;
 use daide_io::duplex::Duplex;
 use daide_io::network::{ConnectStatus, Network};
-use daide_settings::{AddressRange, Host, may_come};
+use daide_settings::{AddressRange, Host};
 use std::io::ErrorKind;
 use std::marker::Model;
 use std::net::SocketAddr;
@@ -318,15 +318,13 @@ impl Acceptor {
         ensures kept { IfErr result (λ _. self.old.came < u32.MAX →
             is_bot_due poller.old.table self.old ≡ true →
             HasRoomForOne present.old → BringsNoBot N.transition
-            (λ address. may_come rules.entry.0.now rules.entry.1 present.old.hosts.items (host_of (socket_ip address)))
+            (λ address. may_come rules.entry.0.now rules.entry.1 (hosts_of present.old.bots.items) (host_of (socket_ip address)))
             poller.old.network poller.new.network) }
         ensures clock { poller.new.table.reading ≡ poller.old.table.reading }
-        ensures allowed { IfOk result (λ bot. may_come rules.entry.0.now rules.entry.1 present.old.hosts.items
+        ensures allowed { IfOk result (λ bot. may_come rules.entry.0.now rules.entry.1 (hosts_of present.old.bots.items)
             (host_of (socket_ip bot.2)) ≡ true) }
-        ensures added { IfOk result (λ bot. (present.new.numbers.items ≡ present.old.numbers.items ++ bot.0 ∷ [])
-            × (present.new.hosts.items ≡ present.old.hosts.items ++ host_of (socket_ip bot.2) ∷ [])
-            × (present.new.addresses.items ≡ present.old.addresses.items ++ bot.2 ∷ [])
-            × (present.new.times.items ≡ present.old.times.items ++ poller.old.table.reading ∷ [])) }
+        ensures added { IfOk result (λ bot. present.new.bots.items
+            ≡ present.old.bots.items ++ bot_from bot.0 bot.2 poller.old.table.reading ∷ []) }
         ensures same { IfErr result (λ _. present.new ≡ present.old) }
         ensures awaited { self.new.awaits_bots ≡ self.old.awaits_bots }
         ensures left { IfErr result (λ _. self.old.came < u32.MAX →
@@ -338,7 +336,7 @@ impl Acceptor {
         ensures table { ChangesRows (λ row. (row ≡ listener_key poller.old.table) ⊎ (row ≡ key)) poller.old.table
             poller.new.table }
         ensures declined { (address : SocketAddr) → result ≡ Err (Some address) →
-            may_come rules.entry.0.now rules.entry.1 present.old.hosts.items (host_of (socket_ip address)) ≡ false }
+            may_come rules.entry.0.now rules.entry.1 (hosts_of present.old.bots.items) (host_of (socket_ip address)) ≡ false }
     {
         let Some(number) = self.came.checked_add(1) else {
             return Err(None);
@@ -348,7 +346,7 @@ impl Acceptor {
         };
         let host = Host::of(address.ip());
         let (allow, most) = rules;
-        if !may_come(allow, most, present.hosts(), host) {
+        if !present.may_come(allow, most, host) {
             return Err(Some(address));
         }
         let Some(bot) = Socket::new(poller, pool, stream, key) else {
@@ -356,7 +354,13 @@ impl Acceptor {
             return Err(None);
         };
         // The list has room for each bot of a run.
-        if !present.add(number, host, address, poller.table.now()) {
+        let since = poller.table.now();
+        if !present.add(Bot {
+            number,
+            host,
+            address,
+            since,
+        }) {
             self.pause_after_refusal(poller.table.now());
             return Err(None);
         }

@@ -1,31 +1,39 @@
-//! The bots that are there, by whose hosts a further one is let in.
+//! The bots that are there, by whose hosts a further one is accepted.
 
-ghost use Rattle.std.specs.Prelude.{◌≡◌, ◌++◌, ◌∷◌, [], true, false, IfSome, length, slice_get, vec_capacity};
-ghost use Rattle.daide_sockets.specs.Present.{HasRoomForOne, position_of, time_in, without_at};
+ghost use Rattle.std.specs.Prelude.{◌≡◌, ◌++◌, ◌∷◌, [], true, false, IfSome, length};
+ghost use Rattle.daide_settings.specs.Ranges.{count_at, may_come as is_let_in, same_host};
+ghost use Rattle.daide_sockets.specs.Present.{HasRoomForOne, address_in, bot_with, hosts_of, position_of, since_in, without_at, without_bot};
 
-use daide_settings::Host;
+use daide_settings::{AddressRange, Host, may_come};
 use std::alloc::Global;
 use std::net::SocketAddr;
 use std::time::Instant;
 
-/// The bots that are there, with a connect under way or in a session: the number, the host and the address of each, and
-/// the reading of the clock at which it came, in the order in which they came.
-#[derive(Drop)]
-pub struct Present {
-    numbers: Vec<u32>,
-    hosts: Vec<Host>,
-    addresses: Vec<SocketAddr>,
-    times: Vec<Option<Instant>>,
+/// A bot that is there.
+#[derive(Clone, Copy)]
+pub struct Bot {
+    /// The number of its session.
+    pub number: u32,
+    pub host: Host,
+    pub address: SocketAddr,
+    /// The reading of the clock at which it came; `None` if there was none.
+    pub since: Option<Instant>,
 }
 
-/// Returns the position of a number; the length of the list if it is not there.
-fn position_of(number: u32, numbers: &[u32]) -> usize
-    ensures { result ≡ position_of number numbers.now }
+/// The bots that are there, with a connect under way or in a session, in the order in which they came.
+#[derive(Drop)]
+pub struct Present {
+    bots: Vec<Bot>,
+}
+
+/// Returns the position of the bot with a number; the length of the list if it is not there.
+fn position_of(number: u32, bots: &[Bot]) -> usize
+    ensures { result ≡ position_of number bots.now }
 {
     let mut at = 0;
-    let mut rest = numbers;
+    let mut rest = bots;
     while let [first, others @ ..] = rest {
-        if *first == number {
+        if first.number == number {
             return at;
         }
         at += 1;
@@ -34,120 +42,99 @@ fn position_of(number: u32, numbers: &[u32]) -> usize
     at
 }
 
-/// Removes the element at a position, if there is one.
-fn remove_at<T: Copy>(list: &mut Vec<T>, at: usize)
-    ensures { list.new.items ≡ without_at at list.old.items }
+/// Returns true if both are the same address.
+fn is_same_host(one: Host, other: Host) -> bool
+    ensures { result ≡ same_host one other }
 {
-    if at < list.len() {
-        list.remove(at);
+    match (one, other) {
+        (Host::V4(one), Host::V4(other)) => one == other,
+        (Host::V6(one), Host::V6(other)) => one == other,
+        _ => false,
     }
+}
+
+/// Returns how many bots are from a host.
+fn count_at(host: Host, bots: &[Bot]) -> usize
+    ensures { result ≡ count_at host (hosts_of bots.now) }
+{
+    let mut count = 0;
+    let mut rest = bots;
+    while let [first, others @ ..] = rest {
+        if is_same_host(host, first.host) {
+            count += 1;
+        }
+        rest = others;
+    }
+    count
 }
 
 impl Present {
     /// Creates the list of a run with at most this many bots at once. Returns `None` if memory is refused.
     pub fn new(alloc: Global, most: usize) -> Option<Present>
-        ensures { IfSome result (λ present. (present.numbers.items ≡ []) × (present.hosts.items ≡ [])
-            × (present.addresses.items ≡ []) × (present.times.items ≡ [])) }
+        ensures { IfSome result (λ present. present.bots.items ≡ []) }
     {
-        let Ok(numbers) = Vec::with_capacity(alloc, most) else {
+        let Ok(bots) = Vec::with_capacity(alloc, most) else {
             return None;
         };
-        let Ok(hosts) = Vec::with_capacity(alloc, most) else {
-            return None;
-        };
-        let Ok(addresses) = Vec::with_capacity(alloc, most) else {
-            return None;
-        };
-        let Ok(times) = Vec::with_capacity(alloc, most) else {
-            return None;
-        };
-        Some(Present {
-            numbers,
-            hosts,
-            addresses,
-            times,
-        })
+        Some(Present { bots })
     }
 
-    /// Returns the hosts.
-    pub fn hosts(&self) -> &[Host]
-        ensures { result.now ≡ self.now.hosts.items }
+    /// Returns true if a further bot may come from a host beside those that are there.
+    pub(crate) fn may_come(&self, allow: &[AddressRange], most: u16, host: Host) -> bool
+        ensures { result ≡ is_let_in allow.now most (hosts_of self.now.bots.items) host }
     {
-        self.hosts.as_slice()
+        may_come(allow, 0, &[], host)
+            && (most == 0 || count_at(host, self.bots.as_slice()) < most as usize)
     }
 
     /// Returns their number.
     pub(crate) fn len(&self) -> usize
-        ensures { result ≡ length self.now.numbers.items }
+        ensures { result ≡ length self.now.bots.items }
     {
-        self.numbers.len()
+        self.bots.len()
     }
 
     /// Returns the address of the bot with this number, if it is there.
     pub(crate) fn address_of(&self, number: u32) -> Option<SocketAddr>
-        ensures { result ≡ slice_get self.now.addresses.items (position_of number self.now.numbers.items) }
+        ensures { result ≡ address_in (bot_with number self.now.bots.items) }
     {
-        let at = position_of(number, self.numbers.as_slice());
-        self.addresses.get(at).copied()
+        match self.bots.get(position_of(number, self.bots.as_slice())) {
+            Some(bot) => Some(bot.address),
+            None => None,
+        }
     }
 
     /// Returns the reading of the clock at which the bot with this number came; `None` if it is not there, or if there
     /// was no reading.
     pub(crate) fn came_at(&self, number: u32) -> Option<Instant>
-        ensures { result ≡ time_in self.now.times.items (position_of number self.now.numbers.items) }
+        ensures { result ≡ since_in (bot_with number self.now.bots.items) }
     {
-        let at = position_of(number, self.numbers.as_slice());
-        match self.times.get(at) {
-            Some(time) => *time,
+        match self.bots.get(position_of(number, self.bots.as_slice())) {
+            Some(bot) => bot.since,
             None => None,
         }
     }
 
-    /// Adds a bot, with its host and its address, that came at this reading of the clock. Returns false if there is no
-    /// room for it, and changes nothing then.
-    pub(crate) fn add(
-        &mut self,
-        number: u32,
-        host: Host,
-        address: SocketAddr,
-        now: Option<Instant>,
-    ) -> bool
-        ensures numbers { result ≡ true → self.new.numbers.items ≡ self.old.numbers.items ++ number ∷ [] }
-        ensures hosts { result ≡ true → self.new.hosts.items ≡ self.old.hosts.items ++ host ∷ [] }
-        ensures addresses { result ≡ true → self.new.addresses.items ≡ self.old.addresses.items ++ address ∷ [] }
-        ensures times { result ≡ true → self.new.times.items ≡ self.old.times.items ++ now ∷ [] }
+    /// Adds a bot. Returns false if there is no room for it, and changes nothing then.
+    pub(crate) fn add(&mut self, bot: Bot) -> bool
+        ensures added { result ≡ true → self.new.bots.items ≡ self.old.bots.items ++ bot ∷ [] }
         ensures full { result ≡ false → self.new ≡ self.old }
         ensures room { HasRoomForOne self.old → result ≡ true }
     {
-        if self.numbers.len() >= self.numbers.capacity()
-            || self.hosts.len() >= self.hosts.capacity()
-            || self.addresses.len() >= self.addresses.capacity()
-            || self.times.len() >= self.times.capacity()
-        {
+        if self.bots.len() >= self.bots.capacity() {
             return false;
         }
-        self.numbers.push_reserved(number);
-        self.hosts.push_reserved(host);
-        self.addresses.push_reserved(address);
-        self.times.push_reserved(now);
+        self.bots.push_reserved(bot);
         true
     }
 
     /// Removes the bot with this number, if it is there.
     pub(crate) fn remove(&mut self, number: u32)
-        ensures numbers { self.new.numbers.items
-            ≡ without_at (position_of number self.old.numbers.items) self.old.numbers.items }
-        ensures hosts { self.new.hosts.items
-            ≡ without_at (position_of number self.old.numbers.items) self.old.hosts.items }
-        ensures addresses { self.new.addresses.items
-            ≡ without_at (position_of number self.old.numbers.items) self.old.addresses.items }
-        ensures times { self.new.times.items
-            ≡ without_at (position_of number self.old.numbers.items) self.old.times.items }
+        ensures { self.new.bots.items ≡ without_bot number self.old.bots.items }
     {
-        let at = position_of(number, self.numbers.as_slice());
-        remove_at(&mut self.numbers, at);
-        remove_at(&mut self.hosts, at);
-        remove_at(&mut self.addresses, at);
-        remove_at(&mut self.times, at);
+        let at = position_of(number, self.bots.as_slice());
+        if at < self.bots.len() {
+            self.bots.remove(at);
+        }
     }
 }

@@ -18,7 +18,7 @@ ghost use Rattle.daide_sockets.specs.InTime.{watching_all};
 ghost use Rattle.daide_sockets.specs.Lines.{milliseconds_between};
 ghost use Rattle.daide_sockets.specs.Lingering.{LooksAround, in_pass, GoOnFor, no_closing};
 ghost use Rattle.daide_sockets.specs.Pairing.{Arriving, ClosesBothAt, TakesOut, pending_connects};
-ghost use Rattle.daide_sockets.specs.Present.{position_of, time_in, without_at};
+ghost use Rattle.daide_sockets.specs.Present.{address_in, bot_with, since_in, without_bot};
 ghost use Rattle.daide_sockets.specs.Rows.{AreRowsOf, KeepsClosingRows, closing_keys};
 ghost use Rattle.daide_sockets.specs.Scheduling.{RunEvolves, run_state};
 ghost use Rattle.daide_sockets.specs.Snapshot.{IsSessionRow};
@@ -170,9 +170,7 @@ impl<'w, N: Network, E: Write + Drop> Sockets<'w, N, E> {
             × (sockets.control.stops_now ≡ false)) }
         ensures bots { IfSome result (λ sockets. (sockets.bots_in_all ≡ bots_in_all settings.now)
             × (sockets.acceptor.is_closed ≡ false)) }
-        ensures none_present { IfSome result (λ sockets. (sockets.present.numbers.items ≡ [])
-            × (sockets.present.hosts.items ≡ []) × (sockets.present.addresses.items ≡ [])
-            × (sockets.present.times.items ≡ [])) }
+        ensures none_present { IfSome result (λ sockets. sockets.present.bots.items ≡ []) }
         ensures rows { AreRowsOf ground.entry.2 [] → IfSome result (λ sockets. AreRowsOf sockets.poller.table
             (closing_keys sockets.closings.streams)) }
     {
@@ -215,8 +213,7 @@ impl<'w, N: Network, E: Write + Drop> Sockets<'w, N, E> {
 
     /// Returns the address of the bot with this number, if it is there.
     pub fn address_of(&self, number: u32) -> Option<SocketAddr>
-        ensures { result ≡ slice_get self.now.present.addresses.items
-            (position_of number self.now.present.numbers.items) }
+        ensures { result ≡ address_in (bot_with number self.now.present.bots.items) }
     {
         self.present.address_of(number)
     }
@@ -241,7 +238,7 @@ impl<'w, N: Network, E: Write + Drop> Sockets<'w, N, E> {
     /// Looks whether a further bot can be accepted. Logs what changed in that, if sessions are logged.
     fn note_capacity(&mut self)
         ensures capacity { self.new.capacity ≡ capacity_after self.old.capacity
-            (length self.old.present.numbers.items) self.old.max_sessions (is_some self.old.acceptor.resumes_at)
+            (length self.old.present.bots.items) self.old.max_sessions (is_some self.old.acceptor.resumes_at)
             self.old.acceptor.came }
         ensures same { self.new ≡ record self.old { errors = self.new.errors; capacity = self.new.capacity } }
     {
@@ -259,7 +256,7 @@ impl<'w, N: Network, E: Write + Drop> Sockets<'w, N, E> {
     /// Returns how long the session with this number has lasted.
     fn lasted(&self, number: u32) -> Lasted
         ensures { result.milliseconds ≡ milliseconds_between
-            (time_in self.now.present.times.items (position_of number self.now.present.numbers.items))
+            (since_in (bot_with number self.now.present.bots.items))
             self.now.poller.table.reading }
     {
         Lasted::between(self.present.came_at(number), self.poller.table.now())
@@ -301,10 +298,10 @@ impl<'w, N: Network, E: Write + Drop> Sockets<'w, N, E> {
         status: SessionStatus,
     ) -> Option<SessionRow>
         ensures row { IfSome result (λ row. IsSessionRow self.now.poller.table.reading ports.now.number
-            (slice_get self.now.present.addresses.items (position_of ports.now.number self.now.present.numbers.items))
+            (address_in (bot_with ports.now.number self.now.present.bots.items))
             (ports.now.bot, ports.now.server) status row) }
         ensures absent { IsNone result →
-            slice_get self.now.present.addresses.items (position_of ports.now.number self.now.present.numbers.items) ≡ None }
+            address_in (bot_with ports.now.number self.now.present.bots.items) ≡ None }
     {
         let bot = self.present.address_of(ports.number())?;
         let (held_to_bot, held_to_server) = ports.held();
@@ -418,7 +415,7 @@ impl<'w, N: Network, E: Write + Drop> System<SocketPorts<'w, N::Connection>> for
         ensures now_kept { self.old.control.stops_now ≡ true → self.new.control.stops_now ≡ true }
         ensures watched { (before : Table) × (self.new.poller.table ≡ watching_control before self.new.control) }
         ensures capacity { self.new.capacity ≡ capacity_after self.old.capacity
-            (length self.old.present.numbers.items) self.old.max_sessions (is_some self.old.acceptor.resumes_at)
+            (length self.old.present.bots.items) self.old.max_sessions (is_some self.old.acceptor.resumes_at)
             self.old.acceptor.came }
         ensures same { self.new ≡ record self.old {
           poller = self.new.poller;
@@ -446,10 +443,9 @@ impl<'w, N: Network, E: Write + Drop> System<SocketPorts<'w, N::Connection>> for
             self.old.arrivals.items self.old.closings) (Shows ports.now status)
             (run_state (self.new.poller.network, self.new.poller.table) (self.new.idle_time, self.new.stall_time) self.new.acceptor
             self.new.arrivals.items self.new.closings) }
-        ensures shows { IsSome (slice_get self.old.present.addresses.items
-            (position_of ports.now.number self.old.present.numbers.items)) → (row : SessionRow)
+        ensures shows { IsSome (address_in (bot_with ports.now.number self.old.present.bots.items)) → (row : SessionRow)
             × IsSessionRow self.old.poller.table.reading ports.now.number
-            (slice_get self.old.present.addresses.items (position_of ports.now.number self.old.present.numbers.items))
+            (address_in (bot_with ports.now.number self.old.present.bots.items))
             (ports.now.bot, ports.now.server) status row
             × Each (PlaceShows row) (places self.old.control.slots) (places self.new.control.slots) }
         ensures same { self.new ≡ record self.old { control = self.new.control } }
@@ -569,14 +565,7 @@ impl<'w, N: Network, E: Write + Drop> System<SocketPorts<'w, N::Connection>> for
               bot = ports.entry.bot.stream;
               server = ports.entry.server.stream;
             }) self.new.closings }
-        ensures numbers { self.new.present.numbers.items
-            ≡ without_at (position_of ports.entry.number self.old.present.numbers.items) self.old.present.numbers.items }
-        ensures hosts { self.new.present.hosts.items
-            ≡ without_at (position_of ports.entry.number self.old.present.numbers.items) self.old.present.hosts.items }
-        ensures addresses { self.new.present.addresses.items
-            ≡ without_at (position_of ports.entry.number self.old.present.numbers.items) self.old.present.addresses.items }
-        ensures times { self.new.present.times.items
-            ≡ without_at (position_of ports.entry.number self.old.present.numbers.items) self.old.present.times.items }
+        ensures present { self.new.present.bots.items ≡ without_bot ports.entry.number self.old.present.bots.items }
         ensures same { self.new ≡ record self.old {
           poller = self.new.poller;
           closings = self.new.closings;

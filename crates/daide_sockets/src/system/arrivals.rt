@@ -9,7 +9,7 @@ ghost use Rattle.daide_settings.specs.Ranges.{host_of, may_come};
 ghost use Rattle.daide_sockets.specs.Accepting.{is_bot_due, AcceptsThenConnects, BringsNoBot, IsUnreached, GivesConnection};
 ghost use Rattle.daide_sockets.specs.KeptRows.{ChangesRows, IsAcceptRow};
 ghost use Rattle.daide_sockets.specs.Pairing.{Arriving, ClosesAt, Comes, ComesWith, TakesOut, arrival_at, is_vacant};
-ghost use Rattle.daide_sockets.specs.Present.{HasRoomForOne, IsAllowed, IsPresentWith, position_of, without_at};
+ghost use Rattle.daide_sockets.specs.Present.{HasRoomForOne, IsAllowed, IsPresentWith, hosts_of, without_bot};
 ghost use Rattle.daide_sockets.specs.Rows.{KeepsClosingRows, closing_keys};
 ghost use Rattle.daide_sockets.specs.Scheduling.{RunEvolves, run_state};
 ghost use Rattle.daide_sockets.specs.Table.{forgotten, key_of};
@@ -51,18 +51,11 @@ impl<'w, N: Network, E: Write + Drop> Sockets<'w, N, E> {
     fn let_go(&mut self, place: usize, left: Unreached<'w, N::Connection>)
         ensures closes { ClosesAt N.Connection.to_give N.Connection.taken N.Connection.calls
             self.old.poller.table.reading self.old.closings left.entry.bot.stream self.new.closings }
-        ensures numbers { self.new.present.numbers.items
-            ≡ without_at (position_of left.entry.number self.old.present.numbers.items) self.old.present.numbers.items }
-        ensures hosts { self.new.present.hosts.items
-            ≡ without_at (position_of left.entry.number self.old.present.numbers.items) self.old.present.hosts.items }
-        ensures addresses { self.new.present.addresses.items
-            ≡ without_at (position_of left.entry.number self.old.present.numbers.items) self.old.present.addresses.items }
+        ensures present { self.new.present.bots.items ≡ without_bot left.entry.number self.old.present.bots.items }
         ensures clock { self.new.poller.table.reading ≡ self.old.poller.table.reading }
         ensures calls { GoesUnpolled N.transition self.old.poller.network self.new.poller.network }
         ensures rows { KeepsClosingRows (forgotten self.old.poller.table place) (closing_keys self.old.closings.streams)
             self.new.poller.table (closing_keys self.new.closings.streams) }
-        ensures times { self.new.present.times.items
-            ≡ without_at (position_of left.entry.number self.old.present.numbers.items) self.old.present.times.items }
         ensures same { self.new ≡ record self.old {
           poller = self.new.poller;
           closings = self.new.closings;
@@ -210,7 +203,7 @@ impl<'w, N: Network, E: Write + Drop> Sockets<'w, N, E> {
             is_vacant self.old.arrivals.items place ≡ true →
             self.old.acceptor.came < u32.MAX → is_bot_due self.old.poller.table self.old.acceptor ≡ true → HasRoomForOne self.old.present →
             BringsNoBot N.transition (λ address. may_come self.old.allow.now self.old.max_per_address
-            self.old.present.hosts.items (host_of (socket_ip address))) self.old.poller.network
+            (hosts_of self.old.present.bots.items) (host_of (socket_ip address))) self.old.poller.network
             self.new.poller.network) }
         ensures awaited { self.new.acceptor.awaits_bots ≡ true }
         ensures left { IfNone result (place < length self.old.poller.table.deadlines →
@@ -220,7 +213,7 @@ impl<'w, N: Network, E: Write + Drop> Sockets<'w, N, E> {
         ensures times { IfSome result (λ _. ComesWith self.old.arrivals.items place self.old.poller.table.reading
             (as_nanos self.old.im_time) (as_nanos self.old.connect_time) self.new.arrivals.items) }
         ensures allowed { IfSome result (λ began. IsAllowed self.old.allow.now self.old.max_per_address
-            self.old.present.hosts.items began) }
+            (hosts_of self.old.present.bots.items) began) }
         ensures present { IfSome result (λ began. IsPresentWith self.old.poller.table.reading self.old.present began
             self.new.present) }
         ensures absent { IfNone result (self.new.present ≡ self.old.present) }

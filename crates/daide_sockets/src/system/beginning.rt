@@ -50,8 +50,7 @@ impl<'w, S: Duplex + Drop> RunLists<'w, S> {
         ensures none_held { IfSome result (λ lists. (pending_connects lists.arrivals.items ≡ 0)
             × (lists.closings ≡ no_closing stall_time)) }
         ensures room { IfSome result (λ lists. length lists.arrivals.items ≡ max_sessions) }
-        ensures none_present { IfSome result (λ lists. (lists.present.numbers.items ≡ []) × (lists.present.hosts.items ≡ [])
-            × (lists.present.addresses.items ≡ []) × (lists.present.times.items ≡ [])) }
+        ensures none_present { IfSome result (λ lists. lists.present.bots.items ≡ []) }
     {
         let Ok(arrivals) = no_arrivals(alloc, max_sessions) else {
             return None;

@@ -28,9 +28,9 @@ fn counted(count: usize) -> u32
 impl<'w, N: Network, E: Write + Drop> Sockets<'w, N, E> {
     /// Returns the status of the run.
     fn run_status(&self) -> RunStatus
-        ensures { IsRunStatus self.now.acceptor.came (length self.now.present.numbers.items)
+        ensures { IsRunStatus self.now.acceptor.came (length self.now.present.bots.items)
             (pending_connects self.now.arrivals.items) self.now.unreached
-            (nat_le self.now.max_sessions (length self.now.present.numbers.items)
+            (nat_le self.now.max_sessions (length self.now.present.bots.items)
             && is_bot_due self.now.poller.table self.now.acceptor) self.now.control.stops_accepting
             (or_zero (seconds_between self.now.control.started_at self.now.poller.table.reading)) result }
     {
@@ -53,7 +53,7 @@ impl<'w, N: Network, E: Write + Drop> Sockets<'w, N, E> {
 
     /// Returns whether the run is full while an accept of a bot is due.
     fn has_waiting(&self) -> bool
-        ensures { result ≡ (nat_le self.now.max_sessions (length self.now.present.numbers.items)
+        ensures { result ≡ (nat_le self.now.max_sessions (length self.now.present.bots.items)
             && is_bot_due self.now.poller.table self.now.acceptor) }
     {
         self.present.len() >= self.max_sessions && self.acceptor.is_due(&self.poller.table)
@@ -81,8 +81,8 @@ impl<'w, N: Network, E: Write + Drop> Sockets<'w, N, E> {
     /// Advances the control socket, with the status of the run, and returns the operator's orders.
     fn begin_control(&mut self) -> Orders
         ensures control { (run : RunStatus) × IsRunStatus self.old.acceptor.came
-            (length self.old.present.numbers.items) (pending_connects self.old.arrivals.items) self.old.unreached
-            (nat_le self.old.max_sessions (length self.old.present.numbers.items)
+            (length self.old.present.bots.items) (pending_connects self.old.arrivals.items) self.old.unreached
+            (nat_le self.old.max_sessions (length self.old.present.bots.items)
             && is_bot_due self.old.poller.table self.old.acceptor) self.old.control.stops_accepting
             (or_zero (seconds_between self.old.control.started_at self.old.poller.table.reading)) run
             × BeginsRound N.Connection.to_give N.Connection.taken
@@ -108,8 +108,8 @@ impl<'w, N: Network, E: Write + Drop> Sockets<'w, N, E> {
         ensures kept { self.old.control.stops_accepting ≡ true → self.new.control.stops_accepting ≡ true }
         ensures now_kept { self.old.control.stops_now ≡ true → self.new.control.stops_now ≡ true }
         ensures control { (run : RunStatus) × IsRunStatus self.old.acceptor.came
-            (length self.old.present.numbers.items) (pending_connects self.old.arrivals.items) self.old.unreached
-            (nat_le self.old.max_sessions (length self.old.present.numbers.items)
+            (length self.old.present.bots.items) (pending_connects self.old.arrivals.items) self.old.unreached
+            (nat_le self.old.max_sessions (length self.old.present.bots.items)
             && is_bot_due self.old.poller.table self.old.acceptor) self.old.control.stops_accepting
             (or_zero (seconds_between self.old.control.started_at self.old.poller.table.reading)) run
             × BeginsRound N.Connection.to_give N.Connection.taken
