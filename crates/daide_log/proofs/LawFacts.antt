@@ -7,7 +7,9 @@ use Rattle.daide_log.proofs.Common.{match_config_of_line, Unnamed, IsLines, Sess
 use Rattle.daide_log.proofs.Common.{Recorded, Records, ReportEntry, counted_all, lines_of, summary_line}
 use Rattle.daide_io.specs.declared.ports.ClockEvent.TheVariants.{ImTimeIsOver, StopIsRequested}
 use Rattle.daide_log.specs.Log.{IsReportBy, IsReport, Opening, ReportsBy}
-use Rattle.daide_log.specs.RecordLaw.{HasBegun, HasItems, IsReported, PortsAreRecorded, RecordsAreReported}
+use Rattle.daide_protocol.specs.Summary.{reduced}
+use Rattle.daide_log.specs.RecordItem.{record_text}
+use Rattle.daide_log.specs.RecordLaw.{HasBegun, HasItems, IsReported, PortsAreRecorded, RecordsAreReported, notes_reported}
 use Rattle.daide_log.proofs.Played.{has_no_feed, unbroken}
 
 -- a match in which no session has a line
@@ -40,6 +42,14 @@ whole_or_failed end is other = absurd (let same : Whole ≡ Failed = sym is ∙ 
 -- the record of a session whose ports made no call
 nothing_recorded : RecordsAreReported → IsReported limits [] [] [] (initial_state (limits_with limits []))
 nothing_recorded law = law limits [] [] [] (initial_state (limits_with limits [])) refl refl tt tt (omega arith) (refl, refl)
+
+-- the fields of its report: no entry, no note, the text with its counts, and the session's own counts
+fields_of_nothing : RecordsAreReported →
+    (reported : List ReportEntry) × (reported ≡ []) × (notes_reported reported ≡ [])
+    × IsReport (record_text limits [] []) (lines_of reported ++ summary_line (counted_all reported nothing_counted))
+    (Ok (counted_all reported nothing_counted)) × (nothing_counted ≡ reduced (counted_all reported nothing_counted))
+fields_of_nothing law =
+    let r = nothing_recorded law in (r.reported, r.by_lines.0, r.notes, r.report, r.counts)
 
 -- ports whose timer expired, and that had no other call
 one_line : {P : Type 0} (transition : P → PortCall → P → Type 0) (failed : Type 0) →

@@ -14,6 +14,8 @@ pub mod MadeLemmas
 pub mod FramedLemmas
 pub mod LogLemmas
 pub mod PreambleLemmas
+pub mod CauseLemmas
+pub mod ConfigForms
 pub mod EventLemmas
 pub mod StepLemmas
 pub mod AloneLemmas

@@ -2,6 +2,7 @@ use Rattle.daide_log.proofs.Common.{◌∙◌, refl, sym, ap, subst, arith, List
 use Rattle.daide_log.proofs.Common.{heading_after, heading_of, HasRead, IsPreambleProgress}
 use Rattle.daide_log.specs.Log.{Opening}
 use Rattle.daide_log_lines.proofs.PageLemmas.{keeps_all, keeps_more}
+use Rattle.daide_log.proofs.CauseLemmas.{head_cause}
 use Rattle.daide_log.proofs.LogLemmas.{nothing_read}
 use Rattle.daide_log.proofs.PreambleLemmas.{head_judged, step_kept, fault_keeps, next_is, next_held}
 use Rattle.daide_log.proofs.opening.read_preamble.Goals as goal
@@ -32,6 +33,11 @@ returns-in-Err-clause-opened g c =
     c.next_line-found.result c.lines.heading c.with_next-more.result c.lines.invariant.0.has_read c.lines.invariant.0.kept
     c.next_line-found.ensures.found
     (c.with_next-more.ensures.heading ∙ ap (heading_after (heading_of c.lines.heading)) c.as_slice.ensures.value))
+
+pub returns-in-Err-clause-cause : goal.returns-in-Err-clause-cause
+returns-in-Err-clause-cause g c =
+    head_cause g.R.LogReader.Fails g.W.Sink.Fails c.next_line-found.result c.with_next-more.result c.lines.count ⊥ c.in-Err.fault
+    (sym c.after_line.ensures ∙ c.in-Err.is) c.next_line-found.ensures.cause
 
 pub returns-in-Err-clause-kept_at_fault : goal.returns-in-Err-clause-kept_at_fault
 returns-in-Err-clause-kept_at_fault g c other =
