@@ -3,10 +3,10 @@
 
     bench/draw.py [--check]
 
-Each file there is drawn as the picture of its name. `layers`, `session-machine`, `session-life` and `message` are
-diagrams. `proofs` has one stacked bar per crate. Any other file is a table of figures and is drawn as bars, so a new one
-needs no code. With `--check` nothing is written, and the status is 1 if a picture is not the one of its figures, or has
-none. Lines that begin with `#` contain the picture's title and the source of its figures. The same data give the same
+Each file there is drawn as the picture of its name. `layers`, `session-machine`, `session-life`, `message` and `round`
+are diagrams. `proofs` has one stacked bar per crate. Any other file is a table of figures and is drawn as bars, so a
+new one needs no code. With `--check` nothing is written, and the status is 1 if a picture is not the one of its figures,
+or has none. Lines that begin with `#` contain the picture's title and the source of its figures. The same data give the same
 bytes. The pictures follow the reader's light or dark colour scheme.
 """
 
@@ -270,13 +270,38 @@ def message(notes, _columns, rows):
     return picture
 
 
+def one_round(notes, columns, rows):
+    """Draws the calls from top to bottom, each with what it gives and does, and the queue that it leaves."""
+    picture = Picture(notes)
+    y = picture.top + 22
+    for x, name in zip((20, 330, 604, 700), (columns[0], *columns[2:])):
+        picture.text(x, y, name, "faint", 12)
+    y += 14
+    for place, (call, gives, what, *queue) in enumerate(rows):
+        is_call = place > 0
+        picture.box(20, y, 290, 40, "trusted" if place < 2 else "proved")
+        picture.text(32, y + 25, call, "ink" if is_call else "faint", family="monospace" if is_call else "inherit")
+        picture.text(300, y + 25, gives, "faint", 12, anchor="end", family="monospace")
+        lines = what.split(" / ")
+        for line, words in enumerate(lines):
+            picture.text(330, y + (25 if len(lines) == 1 else 17 + 16 * line), words, size=12)
+        for x, places in zip((604, 700), queue):
+            picture.box(x, y + 8, 76, 24, "axis")
+            picture.text(x + 38, y + 25, places, anchor="middle", weight="bold", family="monospace")
+        if place + 1 < len(rows):
+            picture.arrow((165, y + 40), (165, y + 46))
+        y += 48
+    picture.text(20, y + 12, notes["below"], "faint", 12)
+    return picture
+
+
 def main():
     """Draws every file of figures. With --check writes nothing, and fails if a picture is not the one of its figures."""
     arguments = argparse.ArgumentParser(description=main.__doc__)
     arguments.add_argument("--check", action="store_true", help="compare docs/img with the figures, and write nothing")
     is_check = arguments.parse_args().check
     diagrams = {"layers": layers, "session-machine": session_machine, "session-life": session_life, "message": message,
-                "proofs": proofs}
+                "proofs": proofs, "round": one_round}
     stale = []
     for path in sorted((HERE / "figures").glob("*.csv")):
         text = diagrams.get(path.stem, bars)(*read(path)).whole()

@@ -1,5 +1,5 @@
 -- Lists of places in which each is at most once, and their marks.
-use Rattle.std.proofs.Common.{◌≡◌, ℕ, zero, suc, ◌+◌, ◌≤◌, ◌<◌, Bool, true, false, List, [], ◌∷◌, ◌++◌, length, take, get_or, slice_set}
+use Rattle.std.proofs.Common.{◌≡◌, ℕ, zero, suc, ◌+◌, ◌≤◌, ◌<◌, Bool, true, false, List, [], ◌∷◌, ◌++◌, length, get_or, slice_set}
 use Rattle.std.proofs.Common.{refl, ap, sym, subst, arith}
 use Rattle.daide_io.specs.ReadyQueue.{ReadyView, is_same, occurrences_of, one_if, mark_at, AreMarked, woken, woken_all}
 
@@ -163,20 +163,6 @@ is_there (b ∷ bs) zero h = omega arith
 is_there (b ∷ bs) (suc at) h = omega (arith, is_there bs at h)
 
 -- ---- several places
-
-woken_next : (places : List ℕ) (i : ℕ) (queue : ReadyView) → i < length places →
-    woken_all (take (suc i) places) queue ≡ woken (woken_all (take i places) queue) (get_or places i 0)
-woken_next [] i queue l = absurd (omega (arith, l))
-woken_next (place ∷ places) zero queue l = refl
-woken_next (place ∷ places) (suc i) queue l = woken_next places i (woken queue place) (omega (arith, l))
-
--- one more place of a list is woken
-pub woken_more : (places : List ℕ) (i : ℕ) (queue : ReadyView) → i < length places →
-    woken_all (take (i + 1) places) queue ≡ woken (woken_all (take i places) queue) (get_or places i 0)
-woken_more places i queue l =
-    let same : suc i ≡ i + 1 = omega arith in
-    subst (λ (k : ℕ). woken_all (take k places) queue ≡ woken (woken_all (take i places) queue) (get_or places i 0)) same
-    (woken_next places i queue l)
 
 -- two lists of places, one after the other
 pub woken_both : (one other : List ℕ) (queue : ReadyView) →
