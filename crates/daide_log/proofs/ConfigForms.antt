@@ -22,6 +22,7 @@ numbers_are level body depth config e = go (plain_number level) refl (plain_numb
     right : (given : Config) (r : Result (Unit {0}) ConfigError) → right_or_none given r ≡ Some config → given ≡ config
     right given (Ok good) h = same_Some given config h
     right given (Err fault) h = absurd cc
+
     go : (l : Option ℕ) → plain_number level ≡ l → (b : Option ℕ) → plain_number body ≡ b → (d : Option ℕ) →
         plain_number depth ≡ d → config_of_numbers l b d ≡ Some config → AreNumbers level body depth config
     go None li b bi d di h = absurd cc
@@ -53,6 +54,7 @@ config_line_is line config e = by_rest (strip_prefix (codes "config ") line) ref
         ∙ ap (λ (l : List ℕ). decimal config.top_level ++ codes " " ++ (l ++ codes " " ++ two.rest)) are.body_is
         ∙ ap (λ (l : List ℕ). decimal config.top_level ++ codes " " ++ (decimal config.max_body ++ codes " " ++ l)) are.depth_is)
         ∙ simp append_assoc
+
     by_two : (text : List ℕ) → strip_prefix (codes "config ") line ≡ Some text → (one : Parted) →
         parted_at_space text ≡ Some one → (o : Option Parted) → parted_at_space one.rest ≡ o →
         config_of_two one.word o ≡ Some config →
@@ -61,12 +63,14 @@ config_line_is line config e = by_rest (strip_prefix (codes "config ") line) ref
     by_two text s one a None b h = absurd cc
     by_two text s one a (Some two) b h =
         whole text s one two a b (numbers_are one.word two.word two.rest config h)
+
     by_one : (text : List ℕ) → strip_prefix (codes "config ") line ≡ Some text → (o : Option Parted) →
         parted_at_space text ≡ o → config_of_three o ≡ Some config →
         line ≡ codes "config " ++ decimal config.top_level ++ codes " " ++ decimal config.max_body ++ codes " "
         ++ decimal config.max_depth
     by_one text s None a h = absurd cc
     by_one text s (Some one) a h = by_two text s one a (parted_at_space one.rest) refl h
+
     by_rest : (o : Option (List ℕ)) → strip_prefix (codes "config ") line ≡ o → config_of_rest o ≡ Some config →
         line ≡ codes "config " ++ decimal config.top_level ++ codes " " ++ decimal config.max_body ++ codes " "
         ++ decimal config.max_depth
@@ -151,20 +155,24 @@ match_config_line_is line limits e = by_rest (strip_prefix (codes "config ") lin
     by_four text s one two three a b c None d h = absurd cc
     by_four text s one two three a b c (Some four) d h =
         begins_with (codes "config ") line text s ∙ five_parts text limits one two three four a b c d h
+
     by_three : (text : List ℕ) → strip_prefix (codes "config ") line ≡ Some text → (one two : Parted) →
         parted_at_space text ≡ Some one → parted_at_space one.rest ≡ Some two → (o : Option Parted) →
         parted_at_space two.rest ≡ o → match_config_of_depth one.word two.word o ≡ Some limits → IsMatchConfigLine line limits
     by_three text s one two a b None c h = absurd cc
     by_three text s one two a b (Some three) c h = by_four text s one two three a b c (parted_at_space three.rest) refl h
+
     by_two : (text : List ℕ) → strip_prefix (codes "config ") line ≡ Some text → (one : Parted) →
         parted_at_space text ≡ Some one → (o : Option Parted) → parted_at_space one.rest ≡ o →
         match_config_of_body one.word o ≡ Some limits → IsMatchConfigLine line limits
     by_two text s one a None b h = absurd cc
     by_two text s one a (Some two) b h = by_three text s one two a b (parted_at_space two.rest) refl h
+
     by_one : (text : List ℕ) → strip_prefix (codes "config ") line ≡ Some text → (o : Option Parted) →
         parted_at_space text ≡ o → match_config_of_level o ≡ Some limits → IsMatchConfigLine line limits
     by_one text s None a h = absurd cc
     by_one text s (Some one) a h = by_two text s one a (parted_at_space one.rest) refl h
+
     by_rest : (o : Option (List ℕ)) → strip_prefix (codes "config ") line ≡ o → match_config_of_rest o ≡ Some limits →
         IsMatchConfigLine line limits
     by_rest None s h = absurd cc

@@ -8,6 +8,7 @@ pub mod PageTexts
 pub mod PageLines
 pub mod TextLemmas
 pub mod PartLemmas
+pub mod UnfinishedLemmas
 pub mod PlayLemmas
 pub mod LimitBounds
 pub mod MadeLemmas

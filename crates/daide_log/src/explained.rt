@@ -90,7 +90,11 @@ impl<B: Allocator> Explaining<B> {
 }
 
 /// Writes tokens on a line of their own, with the operator's words by their names.
-fn write_tokens<B: Growth>(words: &Words, tokens: &[u8], text: &mut Vec<u8, B>) -> Result<(), AllocError>
+fn write_tokens<B: Growth>(
+    words: &Words,
+    tokens: &[u8],
+    text: &mut Vec<u8, B>,
+) -> Result<(), AllocError>
     requires { length tokens.now % 2 ≡ 0 }
     ensures text { OnOk result (text.new.items ≡ text.old.items
         ++ with_line_feed (message_text (words_of words.now) (tokens_of tokens.now))) }

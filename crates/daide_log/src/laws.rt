@@ -7,6 +7,7 @@ ghost use Rattle.daide_protocol.specs.declared.config.Config.{Config};
 ghost use Rattle.daide_protocol.specs.declared.summary.Summary.{Summary};
 ghost use Rattle.daide_log.specs.ConfigLine.{config_of_line, match_config_of_line};
 ghost use Rattle.daide_log.specs.declared.config_line.MatchConfig.{MatchConfig};
+ghost use Rattle.daide_log.specs.Explained.{IncompleteFramesAreListed};
 ghost use Rattle.daide_log.specs.Laws.{SessionsAreAlone};
 ghost use Rattle.daide_log.specs.Log.{IsReport, plain};
 ghost use Rattle.daide_log.specs.Progress.{HasFault, IsInTime};
@@ -79,4 +80,10 @@ pub fn config_lines_have_these_forms()
         line ≡ codes "config " ++ decimal limits.config.top_level ++ codes " " ++ decimal limits.config.max_body
         ++ codes " " ++ decimal limits.config.max_depth ++ codes " " ++ decimal limits.sessions ++ codes " "
         ++ decimal limits.words }
+{}
+
+/// A side whose last frame is incomplete has a line for it, with the number of its bytes, however its session ended: also
+/// after an EM or an FM, a lost wire, a stop, and a fault of the other side. Only a fault of that side leaves it out.
+pub fn incomplete_frames_are_listed()
+    ensures { IncompleteFramesAreListed }
 {}

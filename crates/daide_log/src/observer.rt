@@ -134,6 +134,7 @@ pub fn explain_observed<A: Growth + Copy, R: Source, W: Sink, O: Observer>(
 ) -> Result<Explained, LogFault>
     ensures answered { (words : List Word) × IsAnswered (explained words) (silent (R.remaining reader.old))
         (silent (R.remaining reader.new)) (W.contents writer.old) (W.contents writer.new) result }
+    ensures cause { IfErr result (HasCause R.Fails W.Fails (WasRefused A.Refuses)) }
 {
     let mut style = Observed {
         style: Explaining::new(alloc),

@@ -53,6 +53,9 @@ returns-then-not-opened-clause-cause g c =
 pub returns-clause-cause : goal.returns-clause-cause
 returns-clause-cause g c = more_at_err g.R.LogReader.Fails g.W.Sink.Fails c.play.result inr c.play.ensures.cause
 
+pub open_sessions-requires : goal.open_sessions-requires
+open_sessions-requires g c = c.in-Ok.ensures.within.2
+
 pub finish-requires-clause-ready : goal.finish-requires-clause-ready
 finish-requires-clause-ready g c = rw c.deref.ensures.value c.in-Ok-open_sessions.ensures.ready
 

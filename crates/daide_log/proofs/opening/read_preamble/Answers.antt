@@ -4,7 +4,7 @@ use Rattle.daide_log.specs.Log.{Opening}
 use Rattle.daide_log_lines.proofs.PageLemmas.{keeps_all, keeps_more}
 use Rattle.daide_log.proofs.CauseLemmas.{head_cause}
 use Rattle.daide_log.proofs.LogLemmas.{nothing_read}
-use Rattle.daide_log.proofs.PreambleLemmas.{head_judged, step_kept, fault_keeps, next_is, next_held}
+use Rattle.daide_log.proofs.PreambleLemmas.{head_judged, step_kept, fault_keeps, next_is, next_held, done_held}
 use Rattle.daide_log.proofs.opening.read_preamble.Goals as goal
 
 pub lines-init : goal.lines-init
@@ -47,6 +47,11 @@ returns-in-Err-clause-kept_at_fault g c other =
     keeps_more first mid last c.lines.invariant.0.kept
     (fault_keeps c.next_line-found.result c.with_next-more.result c.lines.count c.in-Err.fault _
     (sym c.after_line.ensures ∙ c.in-Err.is) c.next_line-found.ensures.kept c.next_line-found.ensures.kept_at_fault other)
+
+pub returns-in-Ok-Done-clause-within : goal.returns-in-Ok-Done-clause-within
+returns-in-Ok-Done-clause-within g c =
+    done_held c.next_line-found.result c.with_next-more.result c.lines.count c.in-Ok-Done.opened
+    (sym c.after_line.ensures ∙ c.in-Ok-Done.is ∙ ap Ok c.in-Ok-Done.field-0-is) c.with_next-more.ensures.within
 
 pub returns-in-Ok-Done-clause-opened : goal.returns-in-Ok-Done-clause-opened
 returns-in-Ok-Done-clause-opened g c =
