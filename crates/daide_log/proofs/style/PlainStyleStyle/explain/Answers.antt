@@ -6,9 +6,9 @@ pub returns-clause-text : goal.returns-clause-text
 returns-clause-text g c context known = (
   [],
   (λ old events made. (
-    record { source = c.args.source; side = c.args.side; reported = made.move.reported } ∷ [],
+    record { source = c.args._source; side = c.args._side; reported = made.move.reported } ∷ [],
     refl,
-    ap (λ (r : Note). move_line c.args.source c.args.side r ++ []) made.same,
+    ap (λ (r : Note). move_line c.args._source c.args._side r ++ []) made.same,
     (λ before. ap (λ (r : Note). count_note r before) made.same),
     tt,
   )),
