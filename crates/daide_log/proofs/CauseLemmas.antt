@@ -1,5 +1,5 @@
 -- What a fault of a log names has happened.
-use Rattle.daide_log.proofs.Common.{◌≡◌, ◌⊎◌, inl, inr, ℕ, List, Option, Some, None, IfErr, Result, Ok, Err, LogFault, sym, subst, ◌∙◌}
+use Rattle.daide_log.proofs.Common.{◌≡◌, ◌⊎◌, inl, inr, ℕ, Option, Some, None, IfErr, Result, Ok, Err, LogFault, sym, subst, ◌∙◌}
 use Rattle.daide_log.proofs.Common.{LineEnd, IsLateFault, ReportForm, ◌+◌}
 use Rattle.std.proofs.Common.{IsErrAnd}
 use Rattle.daide_causes.specs.Causes.{HasFailed}
@@ -8,7 +8,6 @@ use Rattle.daide_log_lines.specs.declared.fault.LogFault.TheVariants as Faults
 use Rattle.daide_log.proofs.Common.{Held, Line, Last, End}
 use Rattle.daide_log.specs.declared.heading.Heading.{Heading}
 use Rattle.daide_log.specs.declared.heading.Preamble.{Preamble}
-use Rattle.daide_log.specs.declared.opening.PreambleProgress.{PreambleProgress}
 use Rattle.daide_log.specs.declared.page.Unreported.{Unreported}
 use Rattle.daide_log.specs.PreambleKnown.{after_line, at_last, whole_preamble}
 use Rattle.daide_log.specs.Reporting.{IsCauseIn, IsFailedWrite}

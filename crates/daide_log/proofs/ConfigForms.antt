@@ -1,5 +1,5 @@
 -- The second line of a log has the form of docs/FORMATS.md.
-use Rattle.daide_log.proofs.Common.{◌≡◌, ℕ, ◌++◌, List, codes, cond, leb, ◌&&◌, Option, Some, None, Result, Ok, Err, refl, sym, ap, ◌∙◌}
+use Rattle.daide_log.proofs.Common.{◌≡◌, ℕ, ◌++◌, List, codes, leb, ◌&&◌, Option, Some, None, Result, Ok, Err, refl, ap, ◌∙◌}
 use Rattle.daide_log.proofs.Common.{append_assoc, decimal, same_Some, Config, ConfigError, config_fault, plain_number, parted_at_space}
 use Rattle.daide_log.proofs.Common.{within, match_config_of_line, match_config_of_numbers, config_of_line, MatchConfig}
 use Rattle.daide_log_lines.specs.LogLine.{Parted, strip_prefix}

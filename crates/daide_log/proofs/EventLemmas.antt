@@ -16,7 +16,6 @@ use Rattle.daide_protocol.specs.Wires.{IsNew}
 use Rattle.daide_log_lines.specs.declared.fault.LogFault.TheVariants as Faults
 use Rattle.daide_log.specs.declared.page.Unreported.{Unreported}
 use Rattle.daide_log.specs.declared.page.Unreported.TheVariants as Unreporteds
-use Rattle.daide_log.specs.Explained.{explained}
 use Rattle.daide_log.specs.Log.{Playing, event_in, source_in}
 use Rattle.daide_log_lines.specs.Lines.{is_end_of_log, is_last_line}
 use Rattle.daide_log.specs.Reporting.{IsQuietWith, IsCauseIn, fault_of_unreported}

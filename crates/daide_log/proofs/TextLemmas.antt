@@ -1,5 +1,5 @@
 -- Lines of an explanation, in order.
-use Rattle.daide_log.proofs.Common.{◌≡◌, ℕ, List, [], ◌++◌, Option, take, drop, refl, ap, ◌∙◌, append_assoc, append-nil}
+use Rattle.daide_log.proofs.Common.{◌≡◌, ℕ, List, ◌++◌, Option, take, drop, refl, ap, ◌∙◌, append_assoc}
 use Rattle.daide_log.proofs.Common.{take-append-drop, Level, Word, Verdict, Relay, Prn, Huh}
 use Rattle.daide_grammar.specs.declared.side.Side2.{Side2}
 use Rattle.daide_log.specs.Explained.{AreRefusedLines, AreMessageLines}

@@ -1,9 +1,9 @@
 -- An incomplete frame is listed, unless its side's fault ended the session.
 use Rattle.daide_log.proofs.Common.{◌≡◌, ◌≢◌, ℕ, List, [], ◌∷◌, ◌++◌, length, Option, Some, None, Bool, true, false, refl, ap}
-use Rattle.daide_log.proofs.Common.{Side, Bot, Server, Code, SessionState, coming, Ending}
+use Rattle.daide_log.proofs.Common.{Side, Bot, Server, Code, coming, Ending}
 use Rattle.daide_protocol.specs.Machine.{ending_in}
 use Rattle.daide_protocol.specs.declared.ending.Ending.TheVariants as Endings
-use Rattle.daide_log.specs.Explained.{Part, part_of, unfinished_parts, is_at_fault, IncompleteFramesAreListed}
+use Rattle.daide_log.specs.Explained.{Part, part_of, is_at_fault, IncompleteFramesAreListed}
 
 -- only a side's own fault makes it be at fault
 at_fault_by : (side : Side) (ending : Option Ending) → is_at_fault side ending ≡ true →
