@@ -16,7 +16,6 @@ use Rattle.daide_protocol.specs.Wires.{IsNew}
 use Rattle.daide_log_lines.specs.declared.fault.LogFault.TheVariants as Faults
 use Rattle.daide_log.specs.declared.page.Unreported.{Unreported}
 use Rattle.daide_log.specs.declared.page.Unreported.TheVariants as Unreporteds
-use Rattle.daide_log.specs.Explained.{explained}
 use Rattle.daide_log.specs.Log.{Playing, event_in, source_in}
 use Rattle.daide_log_lines.specs.Lines.{is_end_of_log, is_last_line}
 use Rattle.daide_log.specs.Reporting.{IsQuietWith, IsCauseIn, fault_of_unreported}
@@ -35,24 +34,18 @@ pub as_reported : (reported : Result Unit Unreported) (answer : Result Unit LogF
 as_reported (Ok x) answer P e h = subst (λ (r : Result Unit LogFault). OnOk r P) (sym e) h
 as_reported (Err f) answer P e h = subst (λ (r : Result Unit LogFault). OnOk r P) (sym e) tt
 
-pub late_of : {Answer : Type 0} → (form : ReportForm Answer) (fault : Unreported) → IsCauseIn form fault →
-    IsLateFault form (fault_of_unreported fault)
-late_of form Unreporteds.Write h = inl refl
-late_of form Unreporteds.Memory h = inr (refl, h)
+pub late_of : {Answer failed refused : Type 0} → (form : ReportForm Answer) (fault : Unreported) →
+    IsCauseIn form failed refused fault → IsLateFault form failed refused (fault_of_unreported fault)
+late_of form Unreporteds.Write h = inl (refl, h)
+late_of form Unreporteds.Memory h = inr (refl, h.0, h.1)
 
--- a report with explanations may run out of memory
-pub any_cause : {A : Type 0} → (words : List Word) (r : Result A Unreported) → IfErr r (IsCauseIn (explained words))
-any_cause words (Ok x) = tt
-any_cause words (Err Unreporteds.Write) = tt
-any_cause words (Err Unreporteds.Memory) = refl
-
-pub refused_late : {Answer : Type 0} → (form : ReportForm Answer) (reported : Result Unit Unreported) (answer : Result Unit LogFault) →
-    MatchResult reported (λ _. answer ≡ Ok tt) (λ fault. answer ≡ Err (fault_of_unreported fault)) → IfErr reported (IsCauseIn form) →
-    IfErr answer (IsLateFault form)
-refused_late form (Ok x) answer e h =
-    subst (λ (r : Result Unit LogFault). IfErr r (IsLateFault form)) (sym e) tt
-refused_late form (Err f) answer e h =
-    subst (λ (r : Result Unit LogFault). IfErr r (IsLateFault form)) (sym e) (late_of form f h)
+pub refused_late : {Answer : Type 0} → (failed refused : Type 0) (form : ReportForm Answer) (reported : Result Unit Unreported) (answer : Result Unit LogFault) →
+    MatchResult reported (λ _. answer ≡ Ok tt) (λ fault. answer ≡ Err (fault_of_unreported fault)) → IfErr reported (IsCauseIn form failed refused) →
+    IfErr answer (IsLateFault form failed refused)
+refused_late failed refused form (Ok x) answer e h =
+    subst (λ (r : Result Unit LogFault). IfErr r (IsLateFault form failed refused)) (sym e) tt
+refused_late failed refused form (Err f) answer e h =
+    subst (λ (r : Result Unit LogFault). IfErr r (IsLateFault form failed refused)) (sym e) (late_of form f h)
 
 pub new_is_ready : (config : Config) (words : List Word) (session : SessionView) → IsNew (limits_with config words) session →
     config_fault config ≡ Ok tt → IsReady config words session
@@ -274,15 +267,15 @@ module _ {Answer : Type 0} (form : ReportForm Answer) where
       q.counts (appends_and_keeps before all b (texts_of form.text q.reported) q.written k) r
 
   -- the counts could not be written
-  pub unfinished : (P : SessionView → Type 0) (knows : form.Context → Type 0) (start : Reader → Option (List ℕ) → Type 0) (now new : Reader) (held rest line : List ℕ) (n : ℕ)
+  pub unfinished : (failed refused : Type 0) (P : SessionView → Type 0) (knows : form.Context → Type 0) (start : Reader → Option (List ℕ) → Type 0) (now new : Reader) (held rest line : List ℕ) (n : ℕ)
       (version : Version) (sessions : List SessionView) (count : ℕ) (s : Summary) (all c : Option (List ℕ)) (found : LineEnd)
       (result : Result Answer LogFault) → Plays P knows start now held n version sessions count s all →
-      IsFound all now held n (Ok found) line new rest → IfErr result (IsLateFault form) →
+      IsFound all now held n (Ok found) line new rest → IfErr result (IsLateFault form failed refused) →
       (origin : Reader) (before : Option (List ℕ)) → start origin before →
       IfErr result (IsFaultAfter form origin new before c)
-  unfinished P knows start now new held rest line n version sessions count s all c found result p f e origin before h =
+  unfinished failed refused P knows start now new held rest line n version sessions count s all c found result p f e origin before h =
       let q = p.playing origin before h in
-      write_failed form origin new before c result
+      write_failed form failed refused origin new before c result
       (found_given form before all origin now new held rest line n q.reported (Playing version (states_of sessions)) found q.has_read
       q.written f)
       e
@@ -323,7 +316,7 @@ module _ {Answer : Type 0} (form : ReportForm Answer) where
       (fault : LogFault) → Plays P knows start now held n version sessions count s all →
       IsFound all now held n (Ok found) line new rest → is_end_of_log found ≡ false → Keeps all b →
       (is_last_line found ≡ true → event_in version (length sessions) line ≡ None → form.cuts ≡ false) →
-      IsLateFault form fault ⊎ ((fault ≡ Faults.BadLine (n + 1)) × (event_in version (length sessions) line ≡ None)
+      {failed refused : Type 0} → IsLateFault form failed refused fault ⊎ ((fault ≡ Faults.BadLine (n + 1)) × (event_in version (length sessions) line ≡ None)
       × (c ≡ b)) → (origin : Reader) (before : Option (List ℕ)) → start origin before →
       IsFaultAfter form origin new before c fault
   bad_in_play P knows start now new held rest line n version sessions count s all b c found fault p f other k uncut (inl e) origin before h =

@@ -5,9 +5,15 @@ use Rattle.daide_log.proofs.Common.{Summary, Config, limits_with, initial_state,
 use Rattle.daide_log.proofs.Common.{nothing_counted, BadLine, RecordEnd, Whole, Failed, MatchConfig, config_of_line}
 use Rattle.daide_log.proofs.Common.{match_config_of_line, Unnamed, IsLines, SessionsAreAlone, own_reported, HasFault}
 use Rattle.daide_log.proofs.Common.{Recorded, Records, ReportEntry, counted_all, lines_of, summary_line}
+use Rattle.daide_log.proofs.Common.{length, Option, None, ap, Bot, Server, Ending, Over, SessionState, coming}
 use Rattle.daide_io.specs.declared.ports.ClockEvent.TheVariants.{ImTimeIsOver, StopIsRequested}
+use Rattle.daide_protocol.specs.Machine.{ending_in}
+use Rattle.daide_protocol.specs.Summary.{reduced}
+use Rattle.daide_protocol.specs.declared.ending.Ending.TheVariants as Endings
+use Rattle.daide_log.specs.Explained.{Part, unfinished_parts, IncompleteFramesAreListed}
 use Rattle.daide_log.specs.Log.{IsReportBy, IsReport, Opening, ReportsBy}
-use Rattle.daide_log.specs.RecordLaw.{HasBegun, HasItems, IsReported, PortsAreRecorded, RecordsAreReported}
+use Rattle.daide_log.specs.RecordItem.{record_text}
+use Rattle.daide_log.specs.RecordLaw.{HasBegun, HasItems, IsReported, PortsAreRecorded, RecordsAreReported, notes_reported}
 use Rattle.daide_log.proofs.Played.{has_no_feed, unbroken}
 
 -- a match in which no session has a line
@@ -41,6 +47,14 @@ whole_or_failed end is other = absurd (let same : Whole ≡ Failed = sym is ∙ 
 nothing_recorded : RecordsAreReported → IsReported limits [] [] [] (initial_state (limits_with limits []))
 nothing_recorded law = law limits [] [] [] (initial_state (limits_with limits [])) refl refl tt tt (omega arith) (refl, refl)
 
+-- the fields of its report: no entry, no note, the text with its counts, and the session's own counts
+fields_of_nothing : RecordsAreReported →
+    (reported : List ReportEntry) × (reported ≡ []) × (notes_reported reported ≡ [])
+    × IsReport (record_text limits [] []) (lines_of reported ++ summary_line (counted_all reported nothing_counted))
+    (Ok (counted_all reported nothing_counted)) × (nothing_counted ≡ reduced (counted_all reported nothing_counted))
+fields_of_nothing law =
+    let r = nothing_recorded law in (r.reported, r.by_lines.0, r.notes, r.report, r.counts)
+
 -- ports whose timer expired, and that had no other call
 one_line : {P : Type 0} (transition : P → PortCall → P → Type 0) (failed : Type 0) →
     PortsAreRecorded transition failed → (old new : Recorded P) → HasBegun limits [] [] old.record_of →
@@ -56,3 +70,14 @@ stop_line : {P : Type 0} (transition : P → PortCall → P → Type 0) (failed 
     HasItems limits [] (Clock StopIsRequested ∷ []) new.record_of
 stop_line transition failed law old new begun calls whole =
     (law limits [] [] (Clock StopIsRequested ∷ []) old new begun calls).1 (whole_or_failed new.record_of.ending whole)
+
+-- the server's incomplete header has a line after an EM of the bot
+after_an_em : IncompleteFramesAreListed → (state : SessionState) → state.phase ≡ Over (Endings.Error Bot) →
+    (coming state Server).pending ≡ 2 ∷ 0 ∷ [] →
+    (before : List Part) × (part : Part) × (after : List Part) × (unfinished_parts None state ≡ before ++ part ∷ after)
+    × (part.side ≡ Server) × (part.came ≡ 2)
+after_an_em law state is pending =
+    let listed = law None state Server (λ none. absurd (let e : 2 ∷ 0 ∷ [] ≡ [] = sym pending ∙ none in cc))
+    (λ code other. absurd (let e : ◌≡◌ {A = Option Ending} (Some (Endings.Error Bot)) (Some (Endings.Fault Server code)) =
+    sym (ap ending_in is) ∙ other in cc)) in
+    (listed.0, listed.1, listed.2, listed.3, listed.5, listed.6 ∙ ap length pending)

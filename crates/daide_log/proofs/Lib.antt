@@ -8,12 +8,15 @@ pub mod PageTexts
 pub mod PageLines
 pub mod TextLemmas
 pub mod PartLemmas
+pub mod UnfinishedLemmas
 pub mod PlayLemmas
 pub mod LimitBounds
 pub mod MadeLemmas
 pub mod FramedLemmas
 pub mod LogLemmas
 pub mod PreambleLemmas
+pub mod CauseLemmas
+pub mod ConfigForms
 pub mod EventLemmas
 pub mod StepLemmas
 pub mod AloneLemmas

@@ -492,8 +492,9 @@ module _ {Answer : Type 0} (form : ReportForm Answer) where
 
   -- nothing more is stated of a failed write, nor of memory that is refused late
   pub late_fault : (old new : Reader) (a b : Option (List ℕ)) (fault : LogFault) →
-      (given : List ℕ) × GivesInTime form a old new given → IsLateFault form fault → IsFaultAfter form old new a b fault
-  late_fault old new a b fault g (inl e) = subst (IsFaultAfter form old new a b) (sym e) g
+      {failed refused : Type 0} → (given : List ℕ) × GivesInTime form a old new given → IsLateFault form failed refused fault →
+      IsFaultAfter form old new a b fault
+  late_fault old new a b fault g (inl e) = subst (IsFaultAfter form old new a b) (sym e.0) g
   late_fault old new a b' fault g (inr e) = subst (IsFaultAfter form old new a b') (sym e.0) (late form.late e.1)
     where
       late : (b : Bool) → b ≡ true →
@@ -502,11 +503,12 @@ module _ {Answer : Type 0} (form : ReportForm Answer) where
       late true e = g
       late false e = absurd (cc)
 
-  pub write_failed : (old new : Reader) (a b : Option (List ℕ)) (answer : Result Answer LogFault) →
-      (given : List ℕ) × GivesInTime form a old new given → IfErr answer (λ fault. IsLateFault form fault) →
+  pub write_failed : (failed refused : Type 0) (old new : Reader) (a b : Option (List ℕ)) (answer : Result Answer LogFault) →
+      (given : List ℕ) × GivesInTime form a old new given →
+      IfErr answer (λ fault. IsLateFault form failed refused fault) →
       IfErr answer (λ fault. IsFaultAfter form old new a b fault)
-  write_failed old new a b (Ok summary) g e = tt
-  write_failed old new a b (Err fault) g e = late_fault old new a b fault g e
+  write_failed failed refused old new a b (Ok summary) g e = tt
+  write_failed failed refused old new a b (Err fault) g e = late_fault old new a b fault g e
 
 -- equal bytes have the same result
 pub answered_alike : {Answer : Type 0} (form : List Word → ReportForm Answer) (old new : Reader) (a b : Option (List ℕ))

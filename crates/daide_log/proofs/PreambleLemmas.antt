@@ -8,6 +8,8 @@ use Rattle.daide_log.proofs.Common.{keeps_appends, ⊤, Word, words_of, ReportFo
 use Rattle.daide_log.proofs.Common.{GivesInTime, IsPreambleProgress, IsOpened, IsOpenedBy, IsFaultAfter, states_of}
 use Rattle.daide_log_lines.specs.declared.fault.LogFault.TheVariants as Faults
 use Rattle.daide_log.specs.declared.opening.PreambleProgress.{PreambleProgress}
+use Rattle.daide_log.specs.declared.opening.PreambleProgress.TheVariants.{Done}
+use Rattle.daide_log.specs.Heading.{HasSessions}
 use Rattle.daide_log.specs.declared.heading.Preamble as heads
 use Rattle.daide_log.specs.declared.heading.Heading as headings
 use Rattle.daide_log.specs.declared.heading.Heading.TheVariants as Variants
@@ -96,6 +98,50 @@ next_is (Ok End) next n heading e = absurd (cc)
 pub next_held : (next : Option headings.Heading) (heading : headings.Heading) → next ≡ Some heading →
     IfSome next IsPreambleKnown → IsPreambleKnown heading
 next_held next heading e h = subst (λ (o : Option headings.Heading). IfSome o IsPreambleKnown) e h
+
+-- a complete head is within the limits
+whole_held : (heading : headings.Heading) (head : heads.Preamble) → whole_preamble heading ≡ Some head →
+    IsPreambleKnown heading → HasSessions head.limits
+whole_held Variants.Unnamed head e h = absurd (cc)
+whole_held (Variants.Named version) head e h = absurd (cc)
+whole_held (Variants.Headed held) head e h = go (has_all_words (preamble_of held)) e
+  where
+    go : (b : Bool) → cond b (Some held) None ≡ Some head → HasSessions head.limits
+    go true w = subst (λ (p : heads.Preamble). HasSessions p.limits) (same_Some held head w) h
+    go false w = absurd (cc)
+
+more_done : (heading : headings.Heading) (lines : ℕ) (opened : Opened) → preamble_after heading lines (whole_preamble heading) ≡ Done opened →
+    IsPreambleKnown heading → HasSessions opened.head.limits
+more_done heading lines opened e h = go (whole_preamble heading) refl e
+  where
+    go : (o : Option heads.Preamble) → whole_preamble heading ≡ o → preamble_after heading lines o ≡ Done opened →
+        HasSessions opened.head.limits
+    go None w d = absurd (cc)
+    go (Some head) w d =
+        let same : head ≡ opened.head = cc in
+        subst (λ (p : heads.Preamble). HasSessions p.limits) same (whole_held heading head w h)
+
+last_done : (heading : headings.Heading) (lines : ℕ) (opened : Opened) → at_last lines (whole_preamble heading) ≡ Ok (Done opened) →
+    IsPreambleKnown heading → HasSessions opened.head.limits
+last_done heading lines opened e h = go (whole_preamble heading) refl e
+  where
+    go : (o : Option heads.Preamble) → whole_preamble heading ≡ o → at_last lines o ≡ Ok (Done opened) →
+        HasSessions opened.head.limits
+    go None w d = absurd (cc)
+    go (Some head) w d =
+        let same : head ≡ opened.head = cc in
+        subst (λ (p : heads.Preamble). HasSessions p.limits) same (whole_held heading head w h)
+
+pub done_held : (found : Result LineEnd LogFault) (next : Option headings.Heading) (n : ℕ) (opened : Opened) →
+    after_line found next n ≡ Ok (Done opened) → IfSome next IsPreambleKnown → HasSessions opened.head.limits
+done_held (Err fault) next n opened e h = absurd (cc)
+done_held (Ok (Held k)) None n opened e h = absurd (cc)
+done_held (Ok (Held k)) (Some next) n opened e h = more_done next (n + 1) opened (cc) h
+done_held (Ok Line) None n opened e h = absurd (cc)
+done_held (Ok Line) (Some next) n opened e h = more_done next (n + 1) opened (cc) h
+done_held (Ok Last) None n opened e h = absurd (cc)
+done_held (Ok Last) (Some next) n opened e h = last_done next (n + 1) opened e h
+done_held (Ok End) next n opened e h = absurd (cc)
 
 -- as many sessions were created as the head says
 pub as_many : (sessions : List SessionView) (n : ℕ) (state : SessionState) → states_of sessions ≡ replicate n state →

@@ -1,7 +1,5 @@
 -- Lines of an explanation, in order.
-use Rattle.std.specs.List.{AllZip}
-use Rattle.std.proofs.lemmas.List.Elements.{same_from_all_zip}
-use Rattle.daide_log.proofs.Common.{◌≡◌, ℕ, List, [], ◌++◌, Option, take, drop, refl, ap, ◌∙◌, append_assoc, append-nil}
+use Rattle.daide_log.proofs.Common.{◌≡◌, ℕ, List, ◌++◌, Option, take, drop, refl, ap, ◌∙◌, append_assoc}
 use Rattle.daide_log.proofs.Common.{take-append-drop, Level, Word, Verdict, Relay, Prn, Huh}
 use Rattle.daide_grammar.specs.declared.side.Side2.{Side2}
 use Rattle.daide_log.specs.Explained.{AreRefusedLines, AreMessageLines}
@@ -26,8 +24,6 @@ as_message words end level capped max_depth body (Huh place) lines other h = h
 
 -- the header and the body are the held bytes
 pub held_of_parts : (held header body bytes : List ℕ) → header ≡ take 4 held → body ≡ drop 4 held →
-    AllZip (λ x y. y ≡ x) (header ++ (body ++ [])) bytes → bytes ≡ held
-held_of_parts held header body bytes e f each =
-    same_from_all_zip (λ x y. y ≡ x) (header ++ (body ++ [])) bytes each (λ x y e. e)
-    ∙ ap (λ (l : List ℕ). header ++ l) (append-nil body)
-    ∙ ap (λ (l : List ℕ). l ++ body) e ∙ ap (λ (l : List ℕ). take 4 held ++ l) f ∙ take-append-drop 4 held
+    bytes ≡ header ++ body → bytes ≡ held
+held_of_parts held header body bytes e f both =
+    both ∙ ap (λ (l : List ℕ). l ++ body) e ∙ ap (λ (l : List ℕ). take 4 held ++ l) f ∙ take-append-drop 4 held

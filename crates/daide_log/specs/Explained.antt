@@ -1,7 +1,7 @@
 -- The report of a log with explanations. It has the text of each message; for a refused one also the level at which it
 -- was judged, its answer and the reason; the name and the bytes of each fault; the comments of the log; and at the end
 -- each incomplete frame. All these lines but the comments begin with four spaces. (own)
-use Rattle.std.specs.Prelude.{◌≡◌, ℕ, ◌+◌, ◌-◌, ◌/◌, ◌==◌, ◌&&◌, nat_lt, get_or, replicate, slice_set, Bool, true, false, if◌then◌else◌, List, [], ◌∷◌, ◌++◌}
+use Rattle.std.specs.Prelude.{◌≡◌, ◌≢◌, ℕ, ◌+◌, ◌-◌, ◌/◌, ◌==◌, ◌&&◌, nat_lt, get_or, replicate, slice_set, Bool, true, false, if◌then◌else◌, List, [], ◌∷◌, ◌++◌}
 use Rattle.std.specs.Prelude.{codes, length, take, drop, Option, Some, None, is_some}
 use Rattle.std.specs.Fmt.{decimal}
 use Rattle.daide_token.specs.Token.{tokens_of}
@@ -290,6 +290,16 @@ abbrev pub parts_from : Version → ℕ → List SessionState → List Part
 parts_from version session [] = []
 parts_from version session (state ∷ states) =
     unfinished_parts (session_number version session) state ++ parts_from version (session + 1) states
+
+-- A side's incomplete frame is among these with the number of its bytes, however the session ended, unless by a fault
+-- of that side.
+abbrev pub IncompleteFramesAreListed : Type 0
+IncompleteFramesAreListed =
+    (session : Option ℕ) (state : SessionState) (side : Side) → (coming state side).pending ≢ [] →
+    ((code : Code) → ending_in state.phase ≢ Some (Endings.Fault side code)) →
+    (before : List Part) × (part : Part) × (after : List Part)
+    × (unfinished_parts session state ≡ before ++ part ∷ after) × (part.session ≡ session) × (part.side ≡ side)
+    × (part.came ≡ length (coming state side).pending)
 
 abbrev pub part_text : Part → List ℕ
 part_text part = part_line part.session part.side part.came part.size

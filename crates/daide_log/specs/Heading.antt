@@ -1,10 +1,11 @@
 -- The head of a log: the lines before its events. docs/FORMATS.md, "The log" and "The log, version 2". (own)
-use Rattle.std.specs.Prelude.{ℕ, ◌==◌, ◌<◌, ◌≤◌, Bool, if◌then◌else◌, List, [], ◌∷◌, ◌++◌, length, Option, Some, None}
+use Rattle.std.specs.Prelude.{◌≡◌, Ok, ℕ, ◌==◌, ◌<◌, ◌≤◌, Bool, if◌then◌else◌, List, [], ◌∷◌, ◌++◌, length, Option, Some, None}
 use Rattle.std.specs.Prelude.{option_map, is_ok}
 use Rattle.daide_words.specs.declared.word.Word.{Word}
 use Rattle.daide_words.specs.Word.{names_of}
 use Rattle.daide_words.specs.Accepted.{word_fault}
 use Rattle.daide_protocol.specs.Bounds.{most_sessions}
+use Rattle.daide_protocol.specs.Config.{config_fault}
 use Rattle.daide_protocol.specs.declared.config.Config.{Config}
 use Rattle.daide_log.specs.declared.heading.Version.{Version}
 use Rattle.daide_log.specs.declared.heading.Version.TheVariants.{Single, Match}
@@ -22,9 +23,10 @@ pub record Preamble : Type 0 where
   pub limits : MatchConfig
   pub words : List Word
 
--- there is at least one session, and at most the limit
+-- there is at least one session, and at most the limit, and a session accepts the limits
 abbrev pub HasSessions : MatchConfig → Type 0
-HasSessions limits = (0 < limits.sessions) × (limits.sessions ≤ most_sessions)
+HasSessions limits =
+    (0 < limits.sessions) × (limits.sessions ≤ most_sessions) × (config_fault limits.config ≡ Ok tt)
 
 -- the part of a head that was read so far
 pub data Heading : Type 0 where

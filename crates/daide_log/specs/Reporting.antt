@@ -2,6 +2,7 @@
 use Rattle.std.specs.Prelude.{◌≡◌, ◌≢◌, ◌⊎◌, ⊤, true, Ok, ℕ, ◌≤◌, List, [], ◌∷◌, ◌++◌, length, Option, Some, None}
 use Rattle.std.specs.Io.KnownBytes.{Appends}
 use Rattle.daide_frame.specs.declared.side.Side.{Side}
+use Rattle.daide_causes.specs.Causes.{HasFailed}
 use Rattle.daide_protocol.specs.declared.note.Note.{Note}
 use Rattle.daide_protocol.specs.declared.note.Note.TheVariants as Notes
 use Rattle.daide_frame.specs.declared.side.Side.TheVariants.{Bot}
@@ -123,14 +124,20 @@ pub record IsReady (config : Config) (words : List Word) (g : SessionView) : Typ
 
 -- ---- faults
 
--- why a line of a report may be missing: memory is refused only in a form that allocates late
-abbrev pub IsCauseIn : {Answer : Type 0} → ReportForm Answer → Unreported → Type 0
-IsCauseIn form Write = ⊤
-IsCauseIn form Memory = form.late ≡ true
+-- a line of a report is missing because a write failed; `Fails` is the relation of that name of the writer
+abbrev pub IsFailedWrite : {W : Type 0} → (W → W → Type 0) → Unreported → Type 0
+IsFailedWrite Fails fault = (fault ≡ Write) × HasFailed Fails
+
+-- why a line of a report may be missing: a write failed, or memory was refused, in a form that allocates late; `failed`
+-- and `refused` state that these happened
+abbrev pub IsCauseIn : {Answer : Type 0} → ReportForm Answer → Type 0 → Type 0 → Unreported → Type 0
+IsCauseIn form failed refused Write = failed
+IsCauseIn form failed refused Memory = (form.late ≡ true) × refused
 
 -- the same, as a fault of the log
-abbrev pub IsLateFault : {Answer : Type 0} → ReportForm Answer → LogFault → Type 0
-IsLateFault form fault = (fault ≡ Faults.Write) ⊎ ((fault ≡ Faults.Memory) × (form.late ≡ true))
+abbrev pub IsLateFault : {Answer : Type 0} → ReportForm Answer → Type 0 → Type 0 → LogFault → Type 0
+IsLateFault form failed refused fault =
+    ((fault ≡ Faults.Write) × failed) ⊎ ((fault ≡ Faults.Memory) × (form.late ≡ true) × refused)
 
 abbrev pub fault_of_unreported : Unreported → LogFault
 fault_of_unreported Write = Faults.Write

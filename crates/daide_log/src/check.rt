@@ -4,8 +4,10 @@
 //! end. So the writer gets blocks, and has the report of all complete lines whenever a read may block. A plain report
 //! allocates memory only for the sessions, once the head was read.
 
-ghost use Rattle.std.specs.Prelude.{◌≡◌, ◌≢◌, ◌≤◌, true, false, [], All, length, List, ℕ, Option, None, Err, IfOk, IfErr};
+ghost use Rattle.std.specs.Prelude.{◌≡◌, ◌≢◌, ◌≤◌, ◌⊎◌, true, false, [], All, length, List, ℕ, Option, None, Err, IfOk, IfErr};
 ghost use Rattle.std.specs.Io.KnownBytes.{Keeps};
+ghost use Rattle.daide_causes.specs.Causes.{HasFailed, WasRefused};
+ghost use Rattle.daide_log_lines.specs.Cause.{HasCause};
 ghost use Rattle.daide_log_lines.specs.Input.{IsSameReader};
 ghost use Rattle.daide_log_lines.specs.LogLine.{most_lines};
 ghost use Rattle.daide_log_lines.specs.Lines.{is_end_of_log, is_last_line};
@@ -26,6 +28,8 @@ use crate::opening::{open_sessions, read_preamble};
 use crate::page::{Unreported, put_summary};
 use crate::report_builder::ReportBuilder;
 use crate::style::{PlainStyle, Style};
+use daide_causes::{Sink, Source};
+use daide_frame::Memory;
 use daide_log_lines::block::Block;
 use daide_log_lines::event_line::MOST;
 use daide_log_lines::fault::LogFault;
@@ -38,11 +42,10 @@ use daide_log_lines::text::Text;
 use daide_protocol::Summary;
 use daide_session::Session;
 use std::alloc::Allocator;
-use std::io::{Read, Write};
 
 /// Writes the end of a report: what its style adds after all moves, and the line of the counts. `cut` is the number of
 /// the last line if it is cut.
-fn finish<A: Allocator, W: Write, S: Style>(
+fn finish<A: Allocator, W: Sink, S: Style>(
     sessions: &[Session<A>],
     cut: Option<u32>,
     account: &mut ReportBuilder<'_, '_, W, S>,
@@ -52,7 +55,7 @@ fn finish<A: Allocator, W: Write, S: Style>(
     ensures written { IfOk result (λ answer.
         IsFinished (S.form (words_of account.old.head.words)) cut account.old.head.version (states_of sessions.now)
         account.old.summary (all_of W.contents account.old.output) (all_of W.contents account.new.output) answer) }
-    ensures refused { IfErr result (IsLateFault (S.form (words_of account.old.head.words))) }
+    ensures refused { IfErr result (IsLateFault (S.form (words_of account.old.head.words)) (HasFailed W.Fails) S.refused) }
     ensures same_writer { IsSameWriter account.old.output account.new.output }
 {
     let answer = match account.style.close(
@@ -118,7 +121,7 @@ fn is_cut<A: Allocator, S: Style>(
 }
 
 /// Judges the lines after the `lines` lines of the head, up to the end of the log or its first fault.
-fn play<A: Allocator, R: LogReader, W: Write, S: Style>(
+fn play<A: Allocator, R: LogReader, W: Sink, S: Style>(
     sessions: &mut Vec<Session<A>, A>,
     lines: u32,
     input: &mut Input<'_, R>,
@@ -136,6 +139,7 @@ fn play<A: Allocator, R: LogReader, W: Write, S: Style>(
         lines account.old.head.version (states_of sessions.old.items) (all_of W.contents account.old.output) first before →
         IsAnswered (S.form (words_of account.old.head.words)) first (R.reader_view input.new.reader.now) before
         (all_of W.contents account.new.output) result }
+    ensures cause { IfErr result (HasCause R.Fails W.Fails S.refused) }
     ensures same_reader { IsSameReader input.old input.new }
     ensures same_writer { IsSameWriter account.old.output account.new.output }
 {
@@ -171,7 +175,7 @@ fn play<A: Allocator, R: LogReader, W: Write, S: Style>(
 }
 
 /// Reports a log, and leaves the end of the report in the page.
-fn report<A: Allocator + Copy, R: LogReader, W: Write, S: Style>(
+fn report<A: Memory + Copy, R: LogReader, W: Sink, S: Style>(
     alloc: A,
     input: &mut Input<'_, R>,
     account: &mut ReportBuilder<'_, '_, W, S>,
@@ -182,6 +186,7 @@ fn report<A: Allocator + Copy, R: LogReader, W: Write, S: Style>(
     ensures reported { (words : List Word) × IsAnswered (S.form words) (R.reader_view input.old.reader.now)
         (R.reader_view input.new.reader.now) (all_of W.contents account.old.output) (all_of W.contents account.new.output)
         result }
+    ensures cause { IfErr result (HasCause R.Fails W.Fails (WasRefused A.Refuses ⊎ S.refused)) }
     ensures same_reader { IsSameReader input.old input.new }
     ensures same_writer { IsSameWriter account.old.output account.new.output }
 {
@@ -202,10 +207,11 @@ fn report<A: Allocator + Copy, R: LogReader, W: Write, S: Style>(
 
 /// Writes the page at the end of a report, and returns the report's result, or `Write` if the page can't be written.
 /// After an earlier `Write` it writes nothing.
-fn hand_over_rest<T: Copy, W: Write>(
+fn hand_over_rest<T: Copy, W: Sink>(
     answer: Result<T, LogFault>,
     output: &mut Output<'_, W>,
 ) -> Result<T, LogFault>
+    ensures cause { result ≡ answer ⊎ ((result ≡ Err LogFault.Write) × HasFailed W.Fails) }
     ensures failed { answer ≡ Err LogFault.Write → (result ≡ answer) × (output.new ≡ output.old) }
     ensures whole { result ≢ Err LogFault.Write → (result ≡ answer) × (output.new.page.items ≡ [])
         × Keeps (all_of W.contents output.old) (all_of W.contents output.new) }
@@ -221,7 +227,7 @@ fn hand_over_rest<T: Copy, W: Write>(
 }
 
 /// Reports a log, and writes the page at the end, whether the log has a fault or not.
-fn report_whole<A: Allocator + Copy, R: LogReader, W: Write, S: Style>(
+fn report_whole<A: Memory + Copy, R: LogReader, W: Sink, S: Style>(
     alloc: A,
     input: &mut Input<'_, R>,
     account: &mut ReportBuilder<'_, '_, W, S>,
@@ -233,6 +239,7 @@ fn report_whole<A: Allocator + Copy, R: LogReader, W: Write, S: Style>(
     ensures reported { (words : List Word) × IsAnswered (S.form words) (R.reader_view input.old.reader.now)
         (R.reader_view input.new.reader.now) (W.contents account.old.output.writer.now)
         (W.contents account.new.output.writer.now) result }
+    ensures cause { IfErr result (HasCause R.Fails W.Fails (WasRefused A.Refuses ⊎ S.refused)) }
     ensures same_reader { IsSameReader input.old input.new }
     ensures same_writer { IsSameWriter account.old.output account.new.output }
 {
@@ -242,7 +249,7 @@ fn report_whole<A: Allocator + Copy, R: LogReader, W: Write, S: Style>(
 
 /// Reads a log, and writes its report in a style. After `BadLine`, `refused` says why the line is none.
 #[tactic(auto, using(crate::proofs::LogLemmas::answered_alike))]
-pub(crate) fn report_stream<A: Allocator + Copy, R: LogReader, W: Write, S: Style>(
+pub(crate) fn report_stream<A: Memory + Copy, R: LogReader, W: Sink, S: Style>(
     alloc: A,
     style: &mut S,
     reader: &mut R,
@@ -250,8 +257,9 @@ pub(crate) fn report_stream<A: Allocator + Copy, R: LogReader, W: Write, S: Styl
     refused: &mut Option<LineReason>,
 ) -> Result<S::Answer, LogFault>
     requires fresh { (words : List Word) → S.knows words style.old (S.form words).fresh }
-    ensures { (words : List Word) × IsAnswered (S.form words) (R.reader_view reader.old) (R.reader_view reader.new)
+    ensures answered { (words : List Word) × IsAnswered (S.form words) (R.reader_view reader.old) (R.reader_view reader.new)
         (W.contents writer.old) (W.contents writer.new) result }
+    ensures cause { IfErr result (HasCause R.Fails W.Fails (WasRefused A.Refuses ⊎ S.refused)) }
 {
     let mut input = Input {
         block: Block::new(),
@@ -284,7 +292,7 @@ pub(crate) fn report_stream<A: Allocator + Copy, R: LogReader, W: Write, S: Styl
 /// After `BadLine`, `refused` says why the line is none, for people.
 ///
 /// Not said: that no read is made after one that gave nothing.
-pub fn check_stream<A: Allocator + Copy, R: LogReader, W: Write>(
+pub fn check_stream<A: Memory + Copy, R: LogReader, W: Sink>(
     alloc: A,
     reader: &mut R,
     writer: &mut W,
@@ -294,6 +302,7 @@ pub fn check_stream<A: Allocator + Copy, R: LogReader, W: Write>(
         (W.contents writer.old) (W.contents writer.new) summary) }
     ensures refused { IfErr result (λ fault. IsFaultAfter plain (R.reader_view reader.old) (R.reader_view reader.new)
         (W.contents writer.old) (W.contents writer.new) fault) }
+    ensures cause { IfErr result (HasCause R.Fails W.Fails (WasRefused A.Refuses)) }
 {
     report_stream(alloc, &mut PlainStyle, reader, writer, refused)
 }
@@ -314,9 +323,11 @@ pub fn check_stream<A: Allocator + Copy, R: LogReader, W: Write>(
 /// Premise: a reader and a writer that record their bytes. Such a reader does not record single reads; a test with a
 /// reader of single bytes shows how they come.
 ///
+/// `cause`: `Read`, `Write` and `Memory` are returned only after a read or a write failed, or an allocation was refused
+/// (`HasCause`).
+///
 /// Not said: how much of the report was written after `Write`; what is held back then goes to no writer that failed.
-/// Tests show that `Read`, `Write` and `Memory` are returned only for their cause.
-pub fn check_log<A: Allocator + Copy, R: Read, W: Write>(
+pub fn check_log<A: Memory + Copy, R: Source, W: Sink>(
     alloc: A,
     reader: &mut R,
     writer: &mut W,
@@ -325,6 +336,7 @@ pub fn check_log<A: Allocator + Copy, R: Read, W: Write>(
         (W.contents writer.old) (W.contents writer.new) summary) }
     ensures refused { IfErr result (λ fault. IsFaultAfter plain (silent (R.remaining reader.old))
         (silent (R.remaining reader.new)) (W.contents writer.old) (W.contents writer.new) fault) }
+    ensures cause { IfErr result (HasCause R.Fails W.Fails (WasRefused A.Refuses)) }
 {
     check_stream(alloc, reader, writer, &mut None)
 }

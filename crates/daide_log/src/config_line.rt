@@ -1,8 +1,9 @@
 //! The second line of a log: the limits of its sessions.
 
-ghost use Rattle.std.specs.Prelude.{◌≡◌, IfSome};
+ghost use Rattle.std.specs.Prelude.{◌≡◌, IfSome, Ok};
 ghost use Rattle.daide_grammar.specs.Words.{most_words};
 ghost use Rattle.daide_protocol.specs.Bounds.{most_sessions};
+ghost use Rattle.daide_protocol.specs.Config.{config_fault};
 ghost use Rattle.daide_log_lines.specs.LogLine.{plain_number};
 ghost use Rattle.daide_log_lines.specs.MatchLine.{within};
 ghost use Rattle.daide_log.specs.ConfigLine.{config_of_numbers, config_of_line};
@@ -28,7 +29,8 @@ pub struct MatchConfig {
 
 /// Parses three plain numbers as limits. Returns `None` if `Config::check` refuses them.
 fn limits_of(level: &[u8], body: &[u8], depth: &[u8]) -> Option<Config>
-    ensures { result ≡ config_of_numbers (plain_number level.now) (plain_number body.now) (plain_number depth.now) }
+    ensures config { result ≡ config_of_numbers (plain_number level.now) (plain_number body.now) (plain_number depth.now) }
+    ensures right { IfSome result (λ config. config_fault config ≡ Ok tt) }
 {
     let config = Config {
         top_level: plain_number(level)?,
@@ -44,7 +46,8 @@ fn limits_of(level: &[u8], body: &[u8], depth: &[u8]) -> Option<Config>
 /// Parses the second line of version 1. Returns `None` if it has another form.
 #[tactic(auto, unfolding(crate::specs::ConfigLine::config_of_line))]
 pub fn read_config(line: &[u8]) -> Option<Config>
-    ensures { result ≡ config_of_line line.now }
+    ensures config { result ≡ config_of_line line.now }
+    ensures right { IfSome result (λ config. config_fault config ≡ Ok tt) }
 {
     let rest = line.strip_prefix(b"config ")?;
     let (level, rest) = parted_at_space(rest)?;

@@ -1,6 +1,6 @@
 //! The report of a log with explanations.
 
-ghost use Rattle.std.specs.Prelude.{◌≡◌, ◌+◌, ◌*◌, ◌≤◌, ℕ, ◌++◌, ◌%◌, false, All, replicate, List, Option, drop, length, IfOk, IfSome, OnOk};
+ghost use Rattle.std.specs.Prelude.{◌≡◌, ◌+◌, ◌*◌, ◌≤◌, ℕ, ◌++◌, ◌%◌, false, All, replicate, List, Option, drop, length, IfOk, IfErr, IfSome, OnErr, OnOk};
 ghost use Rattle.std.specs.Io.KnownBytes.{Appends};
 ghost use Rattle.daide_token.specs.Token.{tokens_of};
 ghost use Rattle.daide_token.specs.HexDigits.{digits_of_byte as digits_in};
@@ -9,6 +9,8 @@ ghost use Rattle.daide_words.specs.Word.{grammar_words};
 ghost use Rattle.daide_words.specs.declared.word.Word.{Word};
 ghost use Rattle.daide_words.specs.Words.{words_of};
 ghost use Rattle.daide_reader.specs.Verdict.{HasVerdict, IsPlaceIn};
+ghost use Rattle.daide_causes.specs.Causes.{WasRefused};
+ghost use Rattle.daide_log_lines.specs.Cause.{HasCause};
 ghost use Rattle.daide_log_lines.specs.Output.{IsSameWriter, all_of};
 ghost use Rattle.daide_log_lines.specs.Reader.{silent};
 ghost use Rattle.daide_log.specs.Explained.{explained, is_remark, with_line_feed, message_text, pairs, token_line, bytes_line};
@@ -28,7 +30,7 @@ ghost use Rattle.daide_protocol.specs.declared.config.Config.{Config};
 ghost use Rattle.daide_protocol.specs.Wires.{holding, is_awaited, queued};
 ghost use Rattle.daide_log.specs.Explaining.{IsRuled, IsRightFate, IsRightlyReported, AreLinesBy};
 ghost use Rattle.daide_log.specs.Progress.{IsAnswered, states_of};
-ghost use Rattle.daide_log.specs.Reporting.{IsIdle};
+ghost use Rattle.daide_log.specs.Reporting.{IsFailedWrite, IsIdle};
 ghost use Rattle.daide_log.specs.Proofs.Lawful.{explained_lawful};
 
 use crate::announced::{announced_after, capped_from, level_announced, record_level, top_level};
@@ -40,8 +42,9 @@ use crate::page::{
 };
 use crate::report::{Part, ReportKey};
 use crate::style::Style;
-use daide_explain::{Rules, answer_of, write_explained};
-use daide_frame::{Code, Head, Kind, Side};
+use daide_causes::{Growth, Sink, Source};
+use daide_explain::{Rules, answer_of, append_tokens, write_explained};
+use daide_frame::{Code, Head, Kind, Memory, Side};
 use daide_grammar::Level;
 use daide_io::{FaultCause, FaultField};
 use daide_log_lines::LogFault;
@@ -51,11 +54,9 @@ use daide_protocol::transitions::side2_of;
 use daide_protocol::{Deed, MAX_SESSIONS, Note, Summary};
 use daide_reader::Verdict;
 use daide_session::{Ending, Session};
-use daide_token::{digits_of_byte, write_text_with};
+use daide_token::digits_of_byte;
 use daide_words::Words;
-use std::alloc::Allocator;
-use std::io;
-use std::io::{Read, Write};
+use std::alloc::{AllocError, Allocator};
 
 /// The result for a log without a fault.
 #[derive(Clone, Copy)]
@@ -89,81 +90,89 @@ impl<B: Allocator> Explaining<B> {
 }
 
 /// Writes tokens on a line of their own, with the operator's words by their names.
-fn write_tokens<B: Allocator>(words: &Words, tokens: &[u8], text: &mut Vec<u8, B>) -> io::Result<()>
+fn write_tokens<B: Growth>(
+    words: &Words,
+    tokens: &[u8],
+    text: &mut Vec<u8, B>,
+) -> Result<(), AllocError>
     requires { length tokens.now % 2 ≡ 0 }
-    ensures { OnOk result (text.new.items ≡ text.old.items
+    ensures text { OnOk result (text.new.items ≡ text.old.items
         ++ with_line_feed (message_text (words_of words.now) (tokens_of tokens.now))) }
+    ensures refused { OnErr result (WasRefused B.Refuses) }
 {
-    write_text_with(words.names(), tokens, text)?;
-    text.write_all(b"\n")
+    append_tokens(words, tokens, text)?;
+    B::append(text, b"\n")
 }
 
 /// Writes the level that the server announced, if the highest level capped it.
-fn write_capped<B: Allocator>(capped: Option<Level>, text: &mut Vec<u8, B>) -> io::Result<()>
-    ensures { OnOk result (text.new.items ≡ text.old.items ++ capped_text capped) }
+fn write_capped<B: Growth>(capped: Option<Level>, text: &mut Vec<u8, B>) -> Result<(), AllocError>
+    ensures text { OnOk result (text.new.items ≡ text.old.items ++ capped_text capped) }
+    ensures refused { OnErr result (WasRefused B.Refuses) }
 {
     let Some(announced) = capped else {
         return Ok(());
     };
     let number = announced.number();
-    write!(text, ", capped from {number}")
+    B::append_text(text, format_args!(", capped from {number}"))
 }
 
 /// Writes the level at which a message was judged, and the one that the server announced if the highest level capped it.
-fn write_level<B: Allocator>(
+fn write_level<B: Growth>(
     level: Level,
     capped: Option<Level>,
     text: &mut Vec<u8, B>,
-) -> io::Result<()>
-    ensures { OnOk result (text.new.items ≡ text.old.items ++ with_line_feed (level_text level capped)) }
+) -> Result<(), AllocError>
+    ensures text { OnOk result (text.new.items ≡ text.old.items ++ with_line_feed (level_text level capped)) }
+    ensures refused { OnErr result (WasRefused B.Refuses) }
 {
     let number = level.number();
-    write!(text, "judged at level {number}")?;
+    B::append_text(text, format_args!("judged at level {number}"))?;
     write_capped(capped, text)?;
-    text.write_all(b"\n")
+    B::append(text, b"\n")
 }
 
 /// Writes the text of a refused message, its level, its answer and the reason.
-fn write_refused<B: Allocator + Copy>(
+fn write_refused<B: Growth + Copy>(
     alloc: B,
     rules: &Rules<'_>,
     capped: Option<Level>,
     verdict: Verdict,
     body: &[u8],
     text: &mut Vec<u8, B>,
-) -> io::Result<()>
+) -> Result<(), AllocError>
     requires ruled { IsRuled rules.now.max_depth body.now }
     requires within { IsPlaceIn body.now verdict }
     requires verdict { HasVerdict (IsMessageOver (grammar_words (words_of rules.now.words.now)) rules.now.end
         rules.now.level) rules.now.max_depth (tokens_of body.now) verdict }
-    ensures { OnOk result ((lines : List ℕ) × AreRefusedLines (words_of rules.now.words.now) rules.now.end
+    ensures text { OnOk result ((lines : List ℕ) × AreRefusedLines (words_of rules.now.words.now) rules.now.end
         rules.now.level capped rules.now.max_depth body.now verdict lines
         × (text.new.items ≡ text.old.items ++ lines)) }
+    ensures refused { OnErr result (WasRefused B.Refuses) }
 {
     let answer = answer_of(alloc, verdict, body)?;
     write_tokens(rules.words, body, text)?;
     write_level(rules.level, capped, text)?;
     write_tokens(rules.words, answer.as_slice(), text)?;
-    write_explained(alloc, rules, verdict, body, text)?;
-    Ok(())
+    write_explained(alloc, rules, verdict, body, text)
 }
 
 /// Writes the lines that explain a message.
-fn write_message<B: Allocator + Copy>(
+fn write_message<B: Growth + Copy>(
     alloc: B,
     rules: &Rules<'_>,
     capped: Option<Level>,
     verdict: Verdict,
     body: &[u8],
     text: &mut Vec<u8, B>,
-) -> io::Result<()>
+) -> Result<(), AllocError>
     requires ruled { IsRuled rules.now.max_depth body.now }
     requires within { IsPlaceIn body.now verdict }
     requires verdict { HasVerdict (IsMessageOver (grammar_words (words_of rules.now.words.now)) rules.now.end
         rules.now.level) rules.now.max_depth (tokens_of body.now) verdict }
-    ensures { OnOk result ((lines : List ℕ) × AreMessageLines (words_of rules.now.words.now) rules.now.end
+    ensures text { OnOk result ((lines : List ℕ) × AreMessageLines (words_of rules.now.words.now) rules.now.end
         rules.now.level capped rules.now.max_depth body.now verdict lines
         × (text.new.items ≡ text.old.items ++ lines)) }
+    ensures refused { OnErr result (WasRefused B.Refuses) }
 {
     match verdict {
         Verdict::Relay => write_tokens(rules.words, body, text),
@@ -184,21 +193,23 @@ pub(crate) fn verdict_by(deed: Deed) -> Verdict
 }
 
 /// Writes a byte as two upper-case hexadecimal digits.
-fn write_pair<B: Allocator>(byte: u8, text: &mut Vec<u8, B>) -> io::Result<()>
-    ensures { OnOk result (text.new.items ≡ text.old.items ++ digits_in byte) }
+fn write_pair<B: Growth>(byte: u8, text: &mut Vec<u8, B>) -> Result<(), AllocError>
+    ensures text { OnOk result (text.new.items ≡ text.old.items ++ digits_in byte) }
+    ensures refused { OnErr result (WasRefused B.Refuses) }
 {
-    text.write_all(&digits_of_byte(byte))
+    B::append(text, &digits_of_byte(byte))
 }
 
 /// Writes bytes as pairs of upper-case digits, separated by spaces.
-fn write_pairs<B: Allocator>(bytes: &[u8], text: &mut Vec<u8, B>) -> io::Result<()>
-    ensures { OnOk result (text.new.items ≡ text.old.items ++ pairs bytes.now) }
+fn write_pairs<B: Growth>(bytes: &[u8], text: &mut Vec<u8, B>) -> Result<(), AllocError>
+    ensures text { OnOk result (text.new.items ≡ text.old.items ++ pairs bytes.now) }
+    ensures refused { OnErr result (WasRefused B.Refuses) }
 {
     let mut rest = bytes;
     'bytes: while let [byte, more @ ..] = rest {
         write_pair(*byte, text)?;
         if !more.is_empty() {
-            text.write_all(b" ")?;
+            B::append(text, b" ")?;
         }
         rest = more;
     }
@@ -206,34 +217,37 @@ fn write_pairs<B: Allocator>(bytes: &[u8], text: &mut Vec<u8, B>) -> io::Result<
 }
 
 /// Writes the last two bytes, which are an invalid token, and its index in the message.
-fn write_token<B: Allocator>(bytes: &[u8], text: &mut Vec<u8, B>) -> io::Result<()>
-    ensures { OnOk result (text.new.items ≡ text.old.items ++ token_line bytes.now) }
+fn write_token<B: Growth>(bytes: &[u8], text: &mut Vec<u8, B>) -> Result<(), AllocError>
+    ensures text { OnOk result (text.new.items ≡ text.old.items ++ token_line bytes.now) }
+    ensures refused { OnErr result (WasRefused B.Refuses) }
 {
-    text.write_all(b"bytes: ")?;
+    B::append(text, b"bytes: ")?;
     write_pairs(&bytes[bytes.len().saturating_sub(2)..], text)?;
     let place = bytes.len().saturating_sub(6) / 2;
-    writeln!(text, " at token {place}")
+    B::append_text(text, format_args_nl!(" at token {place}"))
 }
 
 /// Writes the bytes of a fault on a line, if there are any.
-fn write_bytes<B: Allocator>(bytes: &[u8], text: &mut Vec<u8, B>) -> io::Result<()>
-    ensures { OnOk result (text.new.items ≡ text.old.items ++ bytes_line bytes.now) }
+fn write_bytes<B: Growth>(bytes: &[u8], text: &mut Vec<u8, B>) -> Result<(), AllocError>
+    ensures text { OnOk result (text.new.items ≡ text.old.items ++ bytes_line bytes.now) }
+    ensures refused { OnErr result (WasRefused B.Refuses) }
 {
     if bytes.is_empty() {
         return Ok(());
     }
-    text.write_all(b"bytes: ")?;
+    B::append(text, b"bytes: ")?;
     write_pairs(bytes, text)?;
-    text.write_all(b"\n")
+    B::append(text, b"\n")
 }
 
 /// Writes the bytes since the last complete frame for a fault with this code.
-fn write_faulty_bytes<B: Allocator>(
+fn write_faulty_bytes<B: Growth>(
     code: Code,
     bytes: &[u8],
     text: &mut Vec<u8, B>,
-) -> io::Result<()>
-    ensures { OnOk result (text.new.items ≡ text.old.items ++ faulty_bytes code bytes.now) }
+) -> Result<(), AllocError>
+    ensures text { OnOk result (text.new.items ≡ text.old.items ++ faulty_bytes code bytes.now) }
+    ensures refused { OnErr result (WasRefused B.Refuses) }
 {
     match code {
         Code::InvalidToken => write_token(bytes, text),
@@ -261,20 +275,21 @@ pub(crate) fn is_message(kind: Kind) -> bool
 }
 
 /// Writes the lines for a side's message, which the session still holds.
-fn write_held<A: Allocator, B: Allocator + Copy>(
+fn write_held<A: Allocator, B: Growth + Copy>(
     head: &Preamble,
     session: &Session<A>,
     announced: Level,
     side: Side,
     deed: Deed,
     text: &mut Vec<u8, B>,
-) -> io::Result<()>
+) -> Result<(), AllocError>
     requires right { IsRightFate (words_of head.now.words) head.now.limits.config side deed session.now }
-    ensures { OnOk result ((lines : List ℕ)
+    ensures text { OnOk result ((lines : List ℕ)
         × AreMessageLines (words_of head.now.words) (side2_of side) (coming session.now.state side).noted
         (spec_capped_from (limits_with head.now.limits.config (words_of head.now.words)).top_level announced
         (coming session.now.state side).noted) head.now.limits.config.max_depth (drop 4 (holding session.now side).held) (verdict_of_deed deed) lines
         × (text.new.items ≡ text.old.items ++ lines)) }
+    ensures refused { OnErr result (WasRefused B.Refuses) }
 {
     let rules = Rules {
         words: &head.words,
@@ -294,36 +309,39 @@ fn write_held<A: Allocator, B: Allocator + Copy>(
 }
 
 /// Writes the lines for a side's faulty frame, which the session still holds.
-fn write_faulty<A: Allocator, B: Allocator + Copy>(
+fn write_faulty<A: Allocator, B: Growth + Copy>(
     session: &Session<A>,
     side: Side,
     code: Code,
     text: &mut Vec<u8, B>,
-) -> io::Result<()>
-    ensures { OnOk result (text.new.items ≡ text.old.items
+) -> Result<(), AllocError>
+    ensures text { OnOk result (text.new.items ≡ text.old.items
         ++ fault_lines session.now.state.limits.cap code (holding session.now side).held) }
+    ensures refused { OnErr result (WasRefused B.Refuses) }
 {
     let name = fault_name(session, side, code);
-    writeln!(text, "{name}")?;
-    let parts: [&[u8]; 2] = [session.header(side), session.body(side)];
-    let bytes = parts.concat(*text.allocator())?;
+    B::append_text(text, format_args_nl!("{name}"))?;
+    let mut bytes = Vec::new(*text.allocator());
+    B::append(&mut bytes, session.header(side))?;
+    B::append(&mut bytes, session.body(side))?;
     write_faulty_bytes(code, bytes.as_slice(), text)
 }
 
 /// Writes the lines that explain a side's move, from the frame that the session still holds.
-fn write_lines<A: Allocator, B: Allocator + Copy>(
+fn write_lines<A: Allocator, B: Growth + Copy>(
     head: &Preamble,
     session: &Session<A>,
     announced: Level,
     side: Side,
     reported: Note,
     text: &mut Vec<u8, B>,
-) -> io::Result<()>
+) -> Result<(), AllocError>
     requires right { IsRightlyReported (words_of head.now.words) head.now.limits.config side reported session.now }
-    ensures { OnOk result ((lines : List ℕ)
+    ensures text { OnOk result ((lines : List ℕ)
         × AreLinesBy (words_of head.now.words) (limits_with head.now.limits.config (words_of head.now.words)) announced side
         reported session.now lines
         × (text.new.items ≡ text.old.items ++ lines)) }
+    ensures refused { OnErr result (WasRefused B.Refuses) }
 {
     match reported {
         Note::Nothing | Note::Stopped => Ok(()),
@@ -411,7 +429,7 @@ fn part_of<A: Allocator>(session: &Session<A>, side: Side) -> Option<Part>
 }
 
 /// Writes the line for a side's incomplete frame, if there is one, and returns the number of lines.
-fn put_unfinished<A: Allocator, W: Write>(
+fn put_unfinished<A: Allocator, W: Sink>(
     session: &Session<A>,
     number: Option<u16>,
     side: Side,
@@ -422,6 +440,7 @@ fn put_unfinished<A: Allocator, W: Write>(
         (is_at_fault side (ending_in session.now.state.phase)) (coming session.now.state side).pending) count
         (all_of W.contents output.old) (all_of W.contents output.new)) }
     ensures few { IfOk result (λ count. count ≤ 1) }
+    ensures refused { IfErr result (IsFailedWrite W.Fails) }
     ensures same_writer { IsSameWriter output.old output.new }
 {
     match part_of(session, side) {
@@ -444,7 +463,7 @@ fn number_in(version: Version, number: u16) -> Option<u16>
 }
 
 /// Writes the lines for a session's incomplete frames, and returns their number.
-fn put_session<A: Allocator, W: Write>(
+fn put_session<A: Allocator, W: Sink>(
     session: &Session<A>,
     number: Option<u16>,
     output: &mut Output<'_, W>,
@@ -453,6 +472,7 @@ fn put_session<A: Allocator, W: Write>(
     ensures text { IfOk result (λ count. HasPut (unfinished_parts number session.now.state) count
         (all_of W.contents output.old) (all_of W.contents output.new)) }
     ensures few { IfOk result (λ count. count ≤ 2) }
+    ensures refused { IfErr result (IsFailedWrite W.Fails) }
     ensures same_writer { IsSameWriter output.old output.new }
 {
     let bot = put_unfinished(session, number, Side::Bot, output)?;
@@ -461,7 +481,7 @@ fn put_session<A: Allocator, W: Write>(
 }
 
 /// Writes the lines for all incomplete frames, and returns their number.
-fn put_parts<A: Allocator, W: Write>(
+fn put_parts<A: Allocator, W: Sink>(
     version: Version,
     sessions: &[Session<A>],
     output: &mut Output<'_, W>,
@@ -471,6 +491,7 @@ fn put_parts<A: Allocator, W: Write>(
     ensures text { IfOk result (λ count. HasPut (parts_from version 1 (states_of sessions.now)) count
         (all_of W.contents output.old) (all_of W.contents output.new)) }
     ensures few { IfOk result (λ count. count ≤ 2 * most_sessions + 2) }
+    ensures refused { IfErr result (IsFailedWrite W.Fails) }
     ensures same_writer { IsSameWriter output.old output.new }
 {
     let mut count = 0;
@@ -485,10 +506,11 @@ fn put_parts<A: Allocator, W: Write>(
 }
 
 /// Writes the line for a cut last line of the log, if it is cut. Returns how many lines were written.
-fn put_cut<W: Write>(cut: Option<u32>, output: &mut Output<'_, W>) -> Result<u32, Unreported>
+fn put_cut<W: Sink>(cut: Option<u32>, output: &mut Output<'_, W>) -> Result<u32, Unreported>
     ensures text { IfOk result (λ count. (count ≡ cut_count cut)
         × Appends (all_of W.contents output.old) (all_of W.contents output.new) (cut_text cut)) }
     ensures few { IfOk result (λ count. count ≤ 1) }
+    ensures refused { IfErr result (IsFailedWrite W.Fails) }
     ensures same_writer { IsSameWriter output.old output.new }
 {
     let Some(number) = cut else {
@@ -499,7 +521,7 @@ fn put_cut<W: Write>(cut: Option<u32>, output: &mut Output<'_, W>) -> Result<u32
 }
 
 /// Writes the line for a cut last line of the log, and the lines for all incomplete frames. Returns their number.
-fn put_rest<A: Allocator, W: Write>(
+fn put_rest<A: Allocator, W: Sink>(
     cut: Option<u32>,
     version: Version,
     sessions: &[Session<A>],
@@ -511,6 +533,7 @@ fn put_rest<A: Allocator, W: Write>(
         (count ≡ cut_count cut + length (parts_from version 1 (states_of sessions.now)))
         × Appends (all_of W.contents output.old) (all_of W.contents output.new)
         (cut_text cut ++ texts_of part_text (parts_from version 1 (states_of sessions.now)))) }
+    ensures refused { IfErr result (IsFailedWrite W.Fails) }
     ensures same_writer { IsSameWriter output.old output.new }
 {
     let cut_lines = put_cut(cut, output)?;
@@ -526,23 +549,26 @@ fn is_remark(line: &[u8]) -> bool
 }
 
 /// Copies a comment from the log to the report.
-fn put_remark<W: Write>(comment: &[u8], output: &mut Output<'_, W>) -> Result<(), Unreported>
+fn put_remark<W: Sink>(comment: &[u8], output: &mut Output<'_, W>) -> Result<(), Unreported>
     ensures text { OnOk result (Appends (all_of W.contents output.old) (all_of W.contents output.new)
         (with_line_feed comment.now)) }
+    ensures refused { IfErr result (IsFailedWrite W.Fails) }
     ensures same_writer { IsSameWriter output.old output.new }
 {
     put_text(comment, output)?;
     put_byte(b'\n', output)
 }
 
-impl<B: Allocator + Copy> Style for Explaining<B> {
+impl<B: Memory + Growth + Copy> Style for Explaining<B> {
     type Answer = Explained;
 
     ghost form = { λ words. explained words };
 
     ghost knows = { λ words style levels. levels ≡ style.announced };
 
-    fn explain<A: Allocator, W: Write>(
+    ghost refused = { WasRefused B.Refuses };
+
+    fn explain<A: Allocator, W: Sink>(
         &mut self,
         head: &Preamble,
         session: &Session<A>,
@@ -564,7 +590,7 @@ impl<B: Allocator + Copy> Style for Explaining<B> {
         put_indented(self.text.as_slice(), output)
     }
 
-    fn quote<W: Write>(
+    fn quote<W: Sink>(
         &mut self,
         _head: &Preamble,
         line: &[u8],
@@ -580,7 +606,7 @@ impl<B: Allocator + Copy> Style for Explaining<B> {
         true
     }
 
-    fn close<A: Allocator, W: Write>(
+    fn close<A: Allocator, W: Sink>(
         &mut self,
         head: &Preamble,
         sessions: &[Session<A>],
@@ -601,14 +627,15 @@ impl<B: Allocator + Copy> Style for Explaining<B> {
 
 /// Reads a log, and writes its report with explanations, as `explain_log` does. Each read is made in time, as for
 /// `check_stream`, which also says what `refused` is.
-pub fn explain_stream<A: Allocator + Copy, R: LogReader, W: Write>(
+pub fn explain_stream<A: Growth + Copy, R: LogReader, W: Sink>(
     alloc: A,
     reader: &mut R,
     writer: &mut W,
     refused: &mut Option<LineReason>,
 ) -> Result<Explained, LogFault>
-    ensures { (words : List Word) × IsAnswered (explained words) (R.reader_view reader.old) (R.reader_view reader.new)
+    ensures answered { (words : List Word) × IsAnswered (explained words) (R.reader_view reader.old) (R.reader_view reader.new)
         (W.contents writer.old) (W.contents writer.new) result }
+    ensures cause { IfErr result (HasCause R.Fails W.Fails (WasRefused A.Refuses)) }
 {
     report_stream(alloc, &mut Explaining::new(alloc), reader, writer, refused)
 }
@@ -621,13 +648,14 @@ pub fn explain_stream<A: Allocator + Copy, R: LogReader, W: Write>(
 /// it, with a line for it (`IsReportBy`: `cut`). It judges at the log's own depth limit.
 ///
 /// Not said: how much of the report was written after `Memory` and `Write`.
-pub fn explain_log<A: Allocator + Copy, R: Read, W: Write>(
+pub fn explain_log<A: Growth + Copy, R: Source, W: Sink>(
     alloc: A,
     reader: &mut R,
     writer: &mut W,
 ) -> Result<Explained, LogFault>
-    ensures { (words : List Word) × IsAnswered (explained words) (silent (R.remaining reader.old))
+    ensures answered { (words : List Word) × IsAnswered (explained words) (silent (R.remaining reader.old))
         (silent (R.remaining reader.new)) (W.contents writer.old) (W.contents writer.new) result }
+    ensures cause { IfErr result (HasCause R.Fails W.Fails (WasRefused A.Refuses)) }
 {
     explain_stream(alloc, reader, writer, &mut None)
 }

@@ -1,6 +1,7 @@
 //! One line of a log after its head, judged by its session.
 
 ghost use Rattle.std.specs.Prelude.{◌≡◌, ◌⊎◌, ◌≤◌, ℕ, List, All, length, Ok, Err, None, IfSome, OnOk, IfErr, MatchResult, option_map};
+ghost use Rattle.daide_causes.specs.Causes.{HasFailed};
 ghost use Rattle.daide_log_lines.specs.LogLine.{longest_piece};
 ghost use Rattle.daide_log_lines.specs.Output.{IsSameWriter, all_of};
 ghost use Rattle.daide_log.specs.Report.{events_of_line, side_of};
@@ -21,12 +22,12 @@ use crate::play::{apply, feed_all, report_move};
 use crate::report::ReportKey;
 use crate::report_builder::ReportBuilder;
 use crate::style::Style;
+use daide_causes::Sink;
 use daide_log_lines::event_line::{MOST, ParsedEvent, read_event};
 use daide_log_lines::fault::LogFault;
 use daide_log_lines::match_line::{ParsedMatchEvent, read_match_event};
 use daide_session::Session;
 use std::alloc::Allocator;
-use std::io::Write;
 
 /// Converts the reason why a report's line is missing into a fault of the log.
 pub(crate) fn as_fault(reported: Result<(), Unreported>) -> Result<(), LogFault>
@@ -42,7 +43,7 @@ pub(crate) fn as_fault(reported: Result<(), Unreported>) -> Result<(), LogFault>
 /// Judges an event. Feeds its bytes, which are at the front of the buffer, or reports its end, the timer or a stop to the
 /// session, and reports the session's moves.
 #[inline(always)]
-pub fn judge<A: Allocator, W: Write, S: Style>(
+pub fn judge<A: Allocator, W: Sink, S: Style>(
     session: &mut Session<A>,
     reported: ParsedEvent,
     source: ReportKey,
@@ -61,7 +62,7 @@ pub fn judge<A: Allocator, W: Write, S: Style>(
         (events_of_line (event_reported bytes.now reported)) session.new.state
         account.old.summary account.new.summary (all_of W.contents account.old.output)
         (all_of W.contents account.new.output)) }
-    ensures refused { IfErr result (IsLateFault (S.form (words_of account.old.head.words))) }
+    ensures refused { IfErr result (IsLateFault (S.form (words_of account.old.head.words)) (HasFailed W.Fails) S.refused) }
     ensures same_head { account.new.head ≡ account.old.head }
     ensures same_writer { IsSameWriter account.old.output account.new.output }
 {
@@ -116,14 +117,14 @@ impl LineContext {
 }
 
 /// Writes what the style reports for the line itself.
-fn quote<W: Write, S: Style>(
+fn quote<W: Sink, S: Style>(
     line: &[u8],
     account: &mut ReportBuilder<'_, '_, W, S>,
 ) -> Result<(), LogFault>
     ensures text { OnOk result ((text : List ℕ)
         × IsQuietWith (S.form (words_of account.old.head.words)) line.now text
         × Appends (all_of W.contents account.old.output) (all_of W.contents account.new.output) text) }
-    ensures refused { IfErr result (IsLateFault (S.form (words_of account.old.head.words))) }
+    ensures refused { IfErr result (IsLateFault (S.form (words_of account.old.head.words)) (HasFailed W.Fails) S.refused) }
     ensures same_head { account.new.head ≡ account.old.head }
     ensures same_summary { account.new.summary ≡ account.old.summary }
     ensures known { (context : (S.form (words_of account.old.head.words)).Context) →
@@ -142,7 +143,7 @@ fn quote<W: Write, S: Style>(
 ///
 /// Fails with `BadLine` if the line has no allowed form, and records why; and else with the faults of writing the report.
 #[inline(always)]
-pub fn judge_line<A: Allocator, W: Write, S: Style>(
+pub fn judge_line<A: Allocator, W: Sink, S: Style>(
     sessions: &mut Vec<Session<A>, A>,
     line: &[u8],
     origin: LineContext,
@@ -164,7 +165,7 @@ pub fn judge_line<A: Allocator, W: Write, S: Style>(
         (all_of W.contents account.old.output)
         (all_of W.contents account.new.output)) }
     ensures same_head { account.new.head ≡ account.old.head }
-    ensures refused { IfErr result (λ fault. IsLateFault (S.form (words_of account.old.head.words)) fault ⊎ ((fault ≡ LogFault.BadLine origin.line)
+    ensures refused { IfErr result (λ fault. IsLateFault (S.form (words_of account.old.head.words)) (HasFailed W.Fails) S.refused fault ⊎ ((fault ≡ LogFault.BadLine origin.line)
         × (event_in origin.version (length sessions.old.items) line.now ≡ None)
         × (all_of W.contents account.new.output ≡ all_of W.contents account.old.output))) }
     ensures same_writer { IsSameWriter account.old.output account.new.output }

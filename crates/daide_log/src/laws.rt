@@ -1,8 +1,13 @@
 //! Laws of reports: functions with no parameters and an empty body, whose contracts are the laws.
 
-ghost use Rattle.std.specs.Prelude.{◌≡◌, ℕ, List, Option, Result};
+ghost use Rattle.std.specs.Prelude.{◌≡◌, ◌++◌, ℕ, List, Option, Some, Result, codes};
+ghost use Rattle.std.specs.Fmt.{decimal};
 ghost use Rattle.daide_log_lines.specs.declared.fault.LogFault.{LogFault};
+ghost use Rattle.daide_protocol.specs.declared.config.Config.{Config};
 ghost use Rattle.daide_protocol.specs.declared.summary.Summary.{Summary};
+ghost use Rattle.daide_log.specs.ConfigLine.{config_of_line, match_config_of_line};
+ghost use Rattle.daide_log.specs.declared.config_line.MatchConfig.{MatchConfig};
+ghost use Rattle.daide_log.specs.Explained.{IncompleteFramesAreListed};
 ghost use Rattle.daide_log.specs.Laws.{SessionsAreAlone};
 ghost use Rattle.daide_log.specs.Log.{IsReport, plain};
 ghost use Rattle.daide_log.specs.Progress.{HasFault, IsInTime};
@@ -63,4 +68,22 @@ pub fn records_are_reported()
 /// Not said: what a writer that failed has, nor that a block that was handed over reached a disk.
 pub fn ports_are_recorded<P: Ports, W: Sink>()
     ensures { PortsAreRecorded P.transition (HasFailed W.Fails) }
+{}
+
+/// A second line that is accepted is `config` and its numbers, in decimal without leading zeros and with single spaces
+/// between them: three in the log of a session, five in the log of a match.
+pub fn config_lines_have_these_forms()
+    ensures single { (line : List ℕ) (config : Config) → config_of_line line ≡ Some config →
+        line ≡ codes "config " ++ decimal config.top_level ++ codes " " ++ decimal config.max_body ++ codes " "
+        ++ decimal config.max_depth }
+    ensures match_log { (line : List ℕ) (limits : MatchConfig) → match_config_of_line line ≡ Some limits →
+        line ≡ codes "config " ++ decimal limits.config.top_level ++ codes " " ++ decimal limits.config.max_body
+        ++ codes " " ++ decimal limits.config.max_depth ++ codes " " ++ decimal limits.sessions ++ codes " "
+        ++ decimal limits.words }
+{}
+
+/// A side whose last frame is incomplete has a line for it, with the number of its bytes, however its session ended: also
+/// after an EM or an FM, a lost wire, a stop, and a fault of the other side. Only a fault of that side leaves it out.
+pub fn incomplete_frames_are_listed()
+    ensures { IncompleteFramesAreListed }
 {}

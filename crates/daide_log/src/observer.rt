@@ -1,7 +1,9 @@
 //! What a caller sees of a log's sessions while the report is written.
 
-ghost use Rattle.std.specs.Prelude.{ℕ, List, Option};
+ghost use Rattle.std.specs.Prelude.{ℕ, List, Option, IfErr};
 ghost use Rattle.daide_words.specs.declared.word.Word.{Word};
+ghost use Rattle.daide_causes.specs.Causes.{WasRefused};
+ghost use Rattle.daide_log_lines.specs.Cause.{HasCause};
 ghost use Rattle.daide_log_lines.specs.Reader.{silent};
 ghost use Rattle.daide_log.specs.Explained.{explained};
 ghost use Rattle.daide_log.specs.Log.{plain};
@@ -14,13 +16,13 @@ use crate::line_reason::LineReason;
 use crate::page::Unreported;
 use crate::report::ReportKey;
 use crate::style::{PlainStyle, Style};
-use daide_frame::Side;
+use daide_causes::{Growth, Sink, Source};
+use daide_frame::{Memory, Side};
 use daide_log_lines::LogFault;
 use daide_log_lines::output::Output;
 use daide_protocol::{Note, Summary};
 use daide_session::Session;
 use std::alloc::Allocator;
-use std::io::{Read, Write};
 
 /// Sees the lines of a log and the moves of its sessions, in the order of the report. It has no effect on the report.
 pub trait Observer {
@@ -55,7 +57,9 @@ impl<S: Style, O: Observer> Style for Observed<'_, S, O> {
 
     ghost knows = { λ words observed. S.knows words observed.style };
 
-    fn explain<A: Allocator, W: Write>(
+    ghost refused = { S.refused };
+
+    fn explain<A: Allocator, W: Sink>(
         &mut self,
         head: &Preamble,
         session: &Session<A>,
@@ -70,7 +74,7 @@ impl<S: Style, O: Observer> Style for Observed<'_, S, O> {
             .explain(head, session, source, side, reported, output)
     }
 
-    fn quote<W: Write>(
+    fn quote<W: Sink>(
         &mut self,
         head: &Preamble,
         line: &[u8],
@@ -84,7 +88,7 @@ impl<S: Style, O: Observer> Style for Observed<'_, S, O> {
         self.style.reads_cut()
     }
 
-    fn close<A: Allocator, W: Write>(
+    fn close<A: Allocator, W: Sink>(
         &mut self,
         head: &Preamble,
         sessions: &[Session<A>],
@@ -101,15 +105,16 @@ impl<S: Style, O: Observer> Style for Observed<'_, S, O> {
 
 /// Reads a log, and writes its report, as `check_log` does. An observer sees the lines and the moves. After `BadLine`,
 /// `refused` says why the line is none.
-pub fn check_observed<A: Allocator + Copy, R: Read, W: Write, O: Observer>(
+pub fn check_observed<A: Memory + Copy, R: Source, W: Sink, O: Observer>(
     alloc: A,
     reader: &mut R,
     writer: &mut W,
     observer: &mut O,
     refused: &mut Option<LineReason>,
 ) -> Result<Summary, LogFault>
-    ensures { IsAnswered plain (silent (R.remaining reader.old)) (silent (R.remaining reader.new))
+    ensures answered { IsAnswered plain (silent (R.remaining reader.old)) (silent (R.remaining reader.new))
         (W.contents writer.old) (W.contents writer.new) result }
+    ensures cause { IfErr result (HasCause R.Fails W.Fails (WasRefused A.Refuses)) }
 {
     let mut style = Observed {
         style: PlainStyle,
@@ -120,15 +125,16 @@ pub fn check_observed<A: Allocator + Copy, R: Read, W: Write, O: Observer>(
 
 /// Reads a log and writes its report with explanations, as `explain_log` does, with an observer and `refused` as for
 /// `check_observed`.
-pub fn explain_observed<A: Allocator + Copy, R: Read, W: Write, O: Observer>(
+pub fn explain_observed<A: Growth + Copy, R: Source, W: Sink, O: Observer>(
     alloc: A,
     reader: &mut R,
     writer: &mut W,
     observer: &mut O,
     refused: &mut Option<LineReason>,
 ) -> Result<Explained, LogFault>
-    ensures { (words : List Word) × IsAnswered (explained words) (silent (R.remaining reader.old))
+    ensures answered { (words : List Word) × IsAnswered (explained words) (silent (R.remaining reader.old))
         (silent (R.remaining reader.new)) (W.contents writer.old) (W.contents writer.new) result }
+    ensures cause { IfErr result (HasCause R.Fails W.Fails (WasRefused A.Refuses)) }
 {
     let mut style = Observed {
         style: Explaining::new(alloc),

@@ -1,11 +1,13 @@
 //! The opening of a log: its head is read, then its sessions are created.
 
-ghost use Rattle.std.specs.Prelude.{◌≡◌, ◌≢◌, ◌+◌, ◌≤◌, [], All, option_map, replicate, IfOk, IfErr, IfSome, OnOk};
+ghost use Rattle.std.specs.Prelude.{◌≡◌, ◌≢◌, ◌+◌, ◌≤◌, [], All, Ok, option_map, replicate, IfOk, IfErr, IfSome, OnOk};
 ghost use Rattle.std.specs.Io.KnownBytes.{Keeps};
+ghost use Rattle.daide_causes.specs.Causes.{WasRefused};
+ghost use Rattle.daide_log_lines.specs.Cause.{HasCause};
 ghost use Rattle.daide_log_lines.specs.Input.{IsSameReader};
 ghost use Rattle.daide_log_lines.specs.Output.{IsSameWriter, all_of};
 ghost use Rattle.daide_protocol.specs.Machine.{initial_state};
-ghost use Rattle.daide_protocol.specs.Config.{limits_with};
+ghost use Rattle.daide_protocol.specs.Config.{config_fault, limits_with};
 ghost use Rattle.daide_words.specs.Words.{words_of};
 ghost use Rattle.daide_log.specs.Heading.{HasSessions, heading_after};
 ghost use Rattle.daide_log_lines.specs.LogLine.{most_lines};
@@ -16,14 +18,15 @@ ghost use Rattle.daide_log.specs.Reporting.{IsReady};
 use crate::heading::{Heading, Preamble};
 use crate::line_reason::{LineReason, head_reason};
 use crate::style::Style;
+use daide_causes::Sink;
+use daide_frame::Memory;
 use daide_log_lines::fault::LogFault;
 use daide_log_lines::input::Input;
 use daide_log_lines::lines::{LineEnd, next_line};
 use daide_log_lines::output::Output;
 use daide_log_lines::reader::LogReader;
+use daide_protocol::SessionLimits;
 use daide_session::Session;
-use std::alloc::Allocator;
-use std::io::Write;
 
 /// A head that was read.
 #[derive(Clone, Copy)]
@@ -109,7 +112,7 @@ fn with_next(
 }
 
 /// Reads the head of a log, line by line. If a line is not a log line or is missing, `refused` says why.
-pub fn read_preamble<S: Style, R: LogReader, W: Write>(
+pub fn read_preamble<S: Style, R: LogReader, W: Sink>(
     input: &mut Input<'_, R>,
     refused: &mut Option<LineReason>,
     output: &mut Output<'_, W>,
@@ -121,6 +124,7 @@ pub fn read_preamble<S: Style, R: LogReader, W: Write>(
     ensures kept { OnOk result (Keeps (all_of W.contents output.old) (all_of W.contents output.new)) }
     ensures kept_at_fault { IfErr result (λ fault. fault ≢ LogFault.Write →
         Keeps (all_of W.contents output.old) (all_of W.contents output.new)) }
+    ensures cause { IfErr result (HasCause R.Fails W.Fails ⊥) }
     ensures same_reader { IsSameReader input.old input.new }
     ensures same_writer { IsSameWriter output.old output.new }
 {
@@ -140,22 +144,24 @@ pub fn read_preamble<S: Style, R: LogReader, W: Write>(
 
 /// Creates the sessions of a log, with the words of its head. Allocates all their memory: one list for all of them, and
 /// two growths for each. Fails with `Memory`.
-pub fn open_sessions<A: Allocator + Copy>(
+pub fn open_sessions<A: Memory + Copy>(
     alloc: A,
     head: &Preamble,
 ) -> Result<Vec<Session<A>, A>, LogFault>
+    requires { config_fault head.now.limits.config ≡ Ok tt }
     ensures begun { IfOk result (λ sessions. states_of sessions.items ≡ replicate head.now.limits.sessions
         (initial_state (limits_with head.now.limits.config (words_of head.now.words)))) }
     ensures ready { IfOk result (λ sessions.
         All (IsReady head.now.limits.config (words_of head.now.words)) sessions.items) }
-    ensures refused { IfErr result (λ fault. fault ≡ LogFault.Memory) }
+    ensures refused { IfErr result (λ fault. (fault ≡ LogFault.Memory) × WasRefused A.Refuses) }
 {
     let count = head.limits.sessions as usize;
-    let Ok(mut sessions) = Vec::with_capacity(alloc, count) else {
+    let Ok(mut sessions) = alloc.with_capacity(count) else {
         return Err(LogFault::Memory);
     };
+    let limits = SessionLimits::of(head.limits.config);
     for _session in 0..count {
-        let Ok(session) = Session::with_words(alloc, head.limits.config, head.words) else {
+        let Ok(session) = Session::with_limits(alloc, limits, head.words) else {
             return Err(LogFault::Memory);
         };
         sessions.push_reserved(session);

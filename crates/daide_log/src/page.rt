@@ -10,14 +10,15 @@ ghost use Rattle.daide_words.specs.Word.{names_of};
 ghost use Rattle.daide_words.specs.Words.{words_of};
 ghost use Rattle.daide_log.specs.Explained.{indented, indented_byte, with_line_feed, message_text};
 ghost use Rattle.daide_log.specs.Report.{line_room, move_line, part_line, cut_line, summary_line};
+ghost use Rattle.daide_log.specs.Reporting.{IsFailedWrite};
 
-use crate::report::{LINE, Part, ReportKey, last_line, put, write_cut, write_move, write_part};
+use crate::report::{LINE, Part, ReportKey, put, write_cut, write_move, write_part, write_summary};
+use daide_causes::Sink;
 use daide_frame::Side;
 use daide_log_lines::output::Output;
 use daide_protocol::{Note, Summary};
 use daide_token::{PrinterState, end_of};
 use daide_words::Words;
-use std::io::Write;
 
 /// The number of bytes of a message that are printed together. Every two of them are at most eight bytes of text.
 const TOGETHER: usize = 256;
@@ -33,11 +34,11 @@ pub enum Unreported {
 
 /// Writes the page if it has less than `room` bytes of free space.
 #[inline(always)]
-fn make_room_for<W: Write>(room: usize, output: &mut Output<'_, W>) -> Result<(), Unreported>
+fn make_room_for<W: Sink>(room: usize, output: &mut Output<'_, W>) -> Result<(), Unreported>
     requires { room ≤ page_size }
     ensures kept { OnOk result (Keeps (all_of W.contents output.old) (all_of W.contents output.new)) }
     ensures room { OnOk result (length output.new.page.items + room ≤ page_size) }
-    ensures refused { IfErr result (λ fault. fault ≡ Unreported.Write) }
+    ensures refused { IfErr result (IsFailedWrite W.Fails) }
     ensures same_writer { IsSameWriter output.old output.new }
 {
     if output.page.remaining_capacity() >= room {
@@ -51,10 +52,10 @@ fn make_room_for<W: Write>(room: usize, output: &mut Output<'_, W>) -> Result<()
 
 /// Writes the page if another line might not fit.
 #[inline(always)]
-fn make_room<W: Write>(output: &mut Output<'_, W>) -> Result<(), Unreported>
+fn make_room<W: Sink>(output: &mut Output<'_, W>) -> Result<(), Unreported>
     ensures kept { OnOk result (Keeps (all_of W.contents output.old) (all_of W.contents output.new)) }
     ensures room { OnOk result (length output.new.page.items + line_room ≤ page_size) }
-    ensures refused { IfErr result (λ fault. fault ≡ Unreported.Write) }
+    ensures refused { IfErr result (IsFailedWrite W.Fails) }
     ensures same_writer { IsSameWriter output.old output.new }
 {
     make_room_for(LINE, output)
@@ -62,9 +63,9 @@ fn make_room<W: Write>(output: &mut Output<'_, W>) -> Result<(), Unreported>
 
 /// Appends a byte to the page.
 #[inline(always)]
-pub(crate) fn put_byte<W: Write>(byte: u8, output: &mut Output<'_, W>) -> Result<(), Unreported>
+pub(crate) fn put_byte<W: Sink>(byte: u8, output: &mut Output<'_, W>) -> Result<(), Unreported>
     ensures text { OnOk result (Appends (all_of W.contents output.old) (all_of W.contents output.new) (byte ∷ [])) }
-    ensures refused { IfErr result (λ fault. fault ≡ Unreported.Write) }
+    ensures refused { IfErr result (IsFailedWrite W.Fails) }
     ensures same_writer { IsSameWriter output.old output.new }
 {
     make_room(output)?;
@@ -73,9 +74,9 @@ pub(crate) fn put_byte<W: Write>(byte: u8, output: &mut Output<'_, W>) -> Result
 }
 
 /// Appends bytes to the page.
-pub(crate) fn put_text<W: Write>(text: &[u8], output: &mut Output<'_, W>) -> Result<(), Unreported>
+pub(crate) fn put_text<W: Sink>(text: &[u8], output: &mut Output<'_, W>) -> Result<(), Unreported>
     ensures text { OnOk result (Appends (all_of W.contents output.old) (all_of W.contents output.new) text.now) }
-    ensures refused { IfErr result (λ fault. fault ≡ Unreported.Write) }
+    ensures refused { IfErr result (IsFailedWrite W.Fails) }
     ensures same_writer { IsSameWriter output.old output.new }
 {
     let mut rest = text;
@@ -87,14 +88,14 @@ pub(crate) fn put_text<W: Write>(text: &[u8], output: &mut Output<'_, W>) -> Res
 }
 
 /// Appends a byte of indented lines to the page, with four spaces before it if it begins a line.
-fn put_in_line<W: Write>(
+fn put_in_line<W: Sink>(
     begins: bool,
     byte: u8,
     output: &mut Output<'_, W>,
 ) -> Result<(), Unreported>
     ensures text { OnOk result (Appends (all_of W.contents output.old) (all_of W.contents output.new)
         (indented_byte begins byte)) }
-    ensures refused { IfErr result (λ fault. fault ≡ Unreported.Write) }
+    ensures refused { IfErr result (IsFailedWrite W.Fails) }
     ensures same_writer { IsSameWriter output.old output.new }
 {
     if begins {
@@ -104,12 +105,12 @@ fn put_in_line<W: Write>(
 }
 
 /// Appends lines to the page, with four spaces before each.
-pub(crate) fn put_indented<W: Write>(
+pub(crate) fn put_indented<W: Sink>(
     text: &[u8],
     output: &mut Output<'_, W>,
 ) -> Result<(), Unreported>
     ensures text { OnOk result (Appends (all_of W.contents output.old) (all_of W.contents output.new) (indented text.now)) }
-    ensures refused { IfErr result (λ fault. fault ≡ Unreported.Write) }
+    ensures refused { IfErr result (IsFailedWrite W.Fails) }
     ensures same_writer { IsSameWriter output.old output.new }
 {
     let mut begins = true;
@@ -124,9 +125,9 @@ pub(crate) fn put_indented<W: Write>(
 
 /// Appends four spaces to the page.
 #[inline(always)]
-fn put_margin<W: Write>(output: &mut Output<'_, W>) -> Result<(), Unreported>
+fn put_margin<W: Sink>(output: &mut Output<'_, W>) -> Result<(), Unreported>
     ensures text { OnOk result (Appends (all_of W.contents output.old) (all_of W.contents output.new) (codes "    ")) }
-    ensures refused { IfErr result (λ fault. fault ≡ Unreported.Write) }
+    ensures refused { IfErr result (IsFailedWrite W.Fails) }
     ensures same_writer { IsSameWriter output.old output.new }
 {
     make_room(output)?;
@@ -136,7 +137,7 @@ fn put_margin<W: Write>(output: &mut Output<'_, W>) -> Result<(), Unreported>
 
 /// Appends the text of some tokens of a message to the page. `place` is the printer's state after the tokens before
 /// them. Returns the state after these.
-fn put_some<W: Write>(
+fn put_some<W: Sink>(
     words: &Words,
     tokens: &[u8],
     place: PrinterState,
@@ -146,7 +147,7 @@ fn put_some<W: Write>(
     ensures text { OnOk result (Appends (all_of W.contents output.old) (all_of W.contents output.new)
         (some_text (names_of (words_of words.now)) place (tokens_of tokens.now))) }
     ensures place { IfOk result (λ next. next ≡ place_past place (tokens_of tokens.now)) }
-    ensures refused { IfErr result (λ fault. fault ≡ Unreported.Write) }
+    ensures refused { IfErr result (IsFailedWrite W.Fails) }
     ensures same_writer { IsSameWriter output.old output.new }
 {
     make_room_for(4 * TOGETHER, output)?;
@@ -155,7 +156,7 @@ fn put_some<W: Write>(
 }
 
 /// Appends the text of a message's tokens to the page, without the end of a quoted text.
-fn put_tokens<W: Write>(
+fn put_tokens<W: Sink>(
     words: &Words,
     tokens: &[u8],
     output: &mut Output<'_, W>,
@@ -164,7 +165,7 @@ fn put_tokens<W: Write>(
     ensures text { OnOk result (Appends (all_of W.contents output.old) (all_of W.contents output.new)
         (some_text (names_of (words_of words.now)) Start (tokens_of tokens.now))) }
     ensures place { IfOk result (λ next. next ≡ place_past Start (tokens_of tokens.now)) }
-    ensures refused { IfErr result (λ fault. fault ≡ Unreported.Write) }
+    ensures refused { IfErr result (IsFailedWrite W.Fails) }
     ensures same_writer { IsSameWriter output.old output.new }
 {
     let mut place = PrinterState::Start;
@@ -179,10 +180,10 @@ fn put_tokens<W: Write>(
 
 /// Appends the end of a message's text and a line feed to the page.
 #[inline(always)]
-fn put_end<W: Write>(place: PrinterState, output: &mut Output<'_, W>) -> Result<(), Unreported>
+fn put_end<W: Sink>(place: PrinterState, output: &mut Output<'_, W>) -> Result<(), Unreported>
     ensures text { OnOk result (Appends (all_of W.contents output.old) (all_of W.contents output.new)
         (with_line_feed (end_text place))) }
-    ensures refused { IfErr result (λ fault. fault ≡ Unreported.Write) }
+    ensures refused { IfErr result (IsFailedWrite W.Fails) }
     ensures same_writer { IsSameWriter output.old output.new }
 {
     make_room(output)?;
@@ -193,7 +194,7 @@ fn put_end<W: Write>(place: PrinterState, output: &mut Output<'_, W>) -> Result<
 
 /// Appends the text of a message to the page, on a line of its own after four spaces, with the operator's words by
 /// their names. The text is not built elsewhere first.
-pub(crate) fn put_message<W: Write>(
+pub(crate) fn put_message<W: Sink>(
     words: &Words,
     tokens: &[u8],
     output: &mut Output<'_, W>,
@@ -201,7 +202,7 @@ pub(crate) fn put_message<W: Write>(
     requires { length tokens.now % 2 ≡ 0 }
     ensures text { OnOk result (Appends (all_of W.contents output.old) (all_of W.contents output.new)
         (indented (with_line_feed (message_text (words_of words.now) (tokens_of tokens.now))))) }
-    ensures refused { IfErr result (λ fault. fault ≡ Unreported.Write) }
+    ensures refused { IfErr result (IsFailedWrite W.Fails) }
     ensures same_writer { IsSameWriter output.old output.new }
 {
     // Names consist of capital letters, so the text has no line feed. The contract of `are_accepted` states this.
@@ -213,7 +214,7 @@ pub(crate) fn put_message<W: Write>(
 
 /// Appends the line of a side's move to the page.
 #[inline(always)]
-pub fn put_move<W: Write>(
+pub fn put_move<W: Sink>(
     source: ReportKey,
     side: Side,
     reported: Note,
@@ -221,7 +222,7 @@ pub fn put_move<W: Write>(
 ) -> Result<(), Unreported>
     ensures text { OnOk result (Appends (all_of W.contents output.old) (all_of W.contents output.new)
         (move_line source side reported)) }
-    ensures refused { IfErr result (λ fault. fault ≡ Unreported.Write) }
+    ensures refused { IfErr result (IsFailedWrite W.Fails) }
     ensures same_writer { IsSameWriter output.old output.new }
 {
     make_room(output)?;
@@ -230,7 +231,7 @@ pub fn put_move<W: Write>(
 }
 
 /// Appends the line for a side's incomplete frame to the page.
-pub(crate) fn put_part<W: Write>(
+pub(crate) fn put_part<W: Sink>(
     number: Option<u16>,
     side: Side,
     part: Part,
@@ -238,7 +239,7 @@ pub(crate) fn put_part<W: Write>(
 ) -> Result<(), Unreported>
     ensures text { OnOk result (Appends (all_of W.contents output.old) (all_of W.contents output.new)
         (part_line number side part.came part.size)) }
-    ensures refused { IfErr result (λ fault. fault ≡ Unreported.Write) }
+    ensures refused { IfErr result (IsFailedWrite W.Fails) }
     ensures same_writer { IsSameWriter output.old output.new }
 {
     make_room(output)?;
@@ -247,13 +248,13 @@ pub(crate) fn put_part<W: Write>(
 }
 
 /// Appends the line for a cut last line of the log to the page.
-pub(crate) fn put_cut_line<W: Write>(
+pub(crate) fn put_cut_line<W: Sink>(
     number: u32,
     output: &mut Output<'_, W>,
 ) -> Result<(), Unreported>
     ensures text { OnOk result (Appends (all_of W.contents output.old) (all_of W.contents output.new)
         (cut_line number)) }
-    ensures refused { IfErr result (λ fault. fault ≡ Unreported.Write) }
+    ensures refused { IfErr result (IsFailedWrite W.Fails) }
     ensures same_writer { IsSameWriter output.old output.new }
 {
     make_room(output)?;
@@ -262,14 +263,13 @@ pub(crate) fn put_cut_line<W: Write>(
 }
 
 /// Appends the last line of a report to the page.
-pub fn put_summary<W: Write>(summary: Summary, output: &mut Output<'_, W>) -> Result<(), Unreported>
+pub fn put_summary<W: Sink>(summary: Summary, output: &mut Output<'_, W>) -> Result<(), Unreported>
     ensures text { OnOk result (Appends (all_of W.contents output.old) (all_of W.contents output.new)
         (summary_line summary)) }
-    ensures refused { IfErr result (λ fault. fault ≡ Unreported.Write) }
+    ensures refused { IfErr result (IsFailedWrite W.Fails) }
     ensures same_writer { IsSameWriter output.old output.new }
 {
-    match last_line(summary) {
-        Ok(line) => put_text(line.as_bytes(), output),
-        Err(_) => Err(Unreported::Write),
-    }
+    make_room(output)?;
+    write_summary(summary, &mut output.page);
+    Ok(())
 }

@@ -3,6 +3,7 @@
 ghost use Rattle.std.specs.Prelude.{◌≡◌, ◌≤◌, ℕ, List, ◌++◌, length, OnOk, IfErr};
 ghost use Rattle.std.specs.Io.KnownBytes.{Appends};
 ghost use Rattle.daide_frame.specs.declared.side.Side.{Side};
+ghost use Rattle.daide_causes.specs.Causes.{HasFailed};
 ghost use Rattle.daide_log_lines.specs.Output.{IsSameWriter, all_of};
 ghost use Rattle.daide_protocol.specs.Events.{Event, bytes_come};
 ghost use Rattle.daide_protocol.specs.Machine.{coming};
@@ -18,12 +19,12 @@ use crate::page::{Unreported, put_move};
 use crate::report::ReportKey;
 use crate::report_builder::ReportBuilder;
 use crate::style::Style;
+use daide_causes::Sink;
 use daide_frame::Side;
 use daide_log_lines::event_line::ParsedEvent;
 use daide_protocol::Note;
 use daide_session::Session;
 use std::alloc::Allocator;
-use std::io::Write;
 
 /// Drops the frames queued for both sides.
 #[inline(always)]
@@ -37,7 +38,7 @@ fn take_answers<A: Allocator>(session: &mut Session<A>)
 
 /// Counts a side's move, and writes its line and what the style adds to it.
 #[inline(always)]
-fn tell<A: Allocator, W: Write, S: Style>(
+fn tell<A: Allocator, W: Sink, S: Style>(
     session: &Session<A>,
     source: ReportKey,
     side: Side,
@@ -54,7 +55,7 @@ fn tell<A: Allocator, W: Write, S: Style>(
         (S.knows (words_of account.old.head.words) account.new.style.now) source side reported session.now
         (λ added. move_line source side reported ++ added) (all_of W.contents account.old.output)
         (all_of W.contents account.new.output)) }
-    ensures refused { IfErr result (IsCauseIn (S.form (words_of account.old.head.words))) }
+    ensures refused { IfErr result (IsCauseIn (S.form (words_of account.old.head.words)) (HasFailed W.Fails) S.refused) }
     ensures same_head { account.new.head ≡ account.old.head }
     ensures same_writer { IsSameWriter account.old.output account.new.output }
 {
@@ -72,7 +73,7 @@ fn tell<A: Allocator, W: Write, S: Style>(
 
 /// Reports the last move of a session, if there was one, and drops the frames queued for both sides.
 #[inline(always)]
-pub fn report_move<A: Allocator, W: Write, S: Style>(
+pub fn report_move<A: Allocator, W: Sink, S: Style>(
     session: &mut Session<A>,
     source: ReportKey,
     side: Side,
@@ -89,7 +90,7 @@ pub fn report_move<A: Allocator, W: Write, S: Style>(
         (S.knows (words_of account.old.head.words) account.new.style.now) source side old.state events session.new.state
         account.old.summary account.new.summary (all_of W.contents account.old.output)
         (all_of W.contents account.new.output)) }
-    ensures refused { IfErr result (IsCauseIn (S.form (words_of account.old.head.words))) }
+    ensures refused { IfErr result (IsCauseIn (S.form (words_of account.old.head.words)) (HasFailed W.Fails) S.refused) }
     ensures same_head { account.new.head ≡ account.old.head }
     ensures same_writer { IsSameWriter account.old.output account.new.output }
 {
@@ -106,7 +107,7 @@ pub fn report_move<A: Allocator, W: Write, S: Style>(
 /// the session's queues only afterwards, because an explanation needs the frame that the session still holds. Without a
 /// move nothing is queued.
 #[inline(always)]
-fn feed_piece<A: Allocator, W: Write, S: Style>(
+fn feed_piece<A: Allocator, W: Sink, S: Style>(
     session: &mut Session<A>,
     side: Side,
     piece: &[u8],
@@ -124,7 +125,7 @@ fn feed_piece<A: Allocator, W: Write, S: Style>(
         (S.knows (words_of account.old.head.words) account.new.style.now) source side session.old.state
         (bytes_come side piece.now) session.new.state account.old.summary account.new.summary
         (all_of W.contents account.old.output) (all_of W.contents account.new.output)) }
-    ensures refused { IfErr result (IsCauseIn (S.form (words_of account.old.head.words))) }
+    ensures refused { IfErr result (IsCauseIn (S.form (words_of account.old.head.words)) (HasFailed W.Fails) S.refused) }
     ensures same_head { account.new.head ≡ account.old.head }
     ensures same_writer { IsSameWriter account.old.output account.new.output }
 {
@@ -137,7 +138,7 @@ fn feed_piece<A: Allocator, W: Write, S: Style>(
 
 /// Feeds a side's bytes in pieces that fit its room, and reports each frame and fault.
 #[inline(always)]
-fn feed_pieces<A: Allocator, W: Write, S: Style>(
+fn feed_pieces<A: Allocator, W: Sink, S: Style>(
     session: &mut Session<A>,
     side: Side,
     bytes: &[u8],
@@ -154,7 +155,7 @@ fn feed_pieces<A: Allocator, W: Write, S: Style>(
         (bytes_come side bytes.now) session.new.state
         account.old.summary account.new.summary (all_of W.contents account.old.output)
         (all_of W.contents account.new.output)) }
-    ensures refused { IfErr result (IsCauseIn (S.form (words_of account.old.head.words))) }
+    ensures refused { IfErr result (IsCauseIn (S.form (words_of account.old.head.words)) (HasFailed W.Fails) S.refused) }
     ensures same_head { account.new.head ≡ account.old.head }
     ensures same_writer { IsSameWriter account.old.output account.new.output }
 {
@@ -170,7 +171,7 @@ fn feed_pieces<A: Allocator, W: Write, S: Style>(
 /// Feeds a side's bytes, and reports each frame and fault. Each side gets code of its own here, in which the side is a
 /// constant, since all that is called is inlined.
 #[inline(always)]
-pub fn feed_all<A: Allocator, W: Write, S: Style>(
+pub fn feed_all<A: Allocator, W: Sink, S: Style>(
     session: &mut Session<A>,
     side: Side,
     bytes: &[u8],
@@ -187,7 +188,7 @@ pub fn feed_all<A: Allocator, W: Write, S: Style>(
         (bytes_come side bytes.now) session.new.state
         account.old.summary account.new.summary (all_of W.contents account.old.output)
         (all_of W.contents account.new.output)) }
-    ensures refused { IfErr result (IsCauseIn (S.form (words_of account.old.head.words))) }
+    ensures refused { IfErr result (IsCauseIn (S.form (words_of account.old.head.words)) (HasFailed W.Fails) S.refused) }
     ensures same_head { account.new.head ≡ account.old.head }
     ensures same_writer { IsSameWriter account.old.output account.new.output }
 {

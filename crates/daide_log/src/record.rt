@@ -16,8 +16,8 @@ use crate::record_text::{put_event, put_head};
 use daide_causes::Sink;
 use daide_frame::Side;
 pub use daide_log_lines::lines::MOST_LINES;
-use daide_log_lines::page::PAGE;
 pub use daide_log_lines::page::Page;
+use daide_log_lines::page::{PAGE, hand_over};
 use daide_log_lines::text::LONGEST_LINE;
 use daide_protocol::Config;
 use daide_words::Words;
@@ -87,20 +87,6 @@ impl<W: Sink + Drop> Model for Record<W> {
       lines = r.lines;
       ending = r.ending;
     } };
-}
-
-/// Writes the page, and empties it.
-#[cold]
-#[inline(never)]
-fn hand_over<W: Sink>(held: &mut Page, writer: &mut W) -> io::Result<()>
-    ensures emptied { OnOk result (held.new.items ≡ []) }
-    ensures written { OnOk result (Keeps (append_known (W.contents writer.old) held.old.items)
-        (append_known (W.contents writer.new) held.new.items)) }
-    ensures failed { OnErr result (W.Fails writer.old writer.new) }
-{
-    writer.write_whole(held.as_slice())?;
-    held.clear();
-    Ok(())
 }
 
 /// Returns how a record of `lines` lines ends, or would end now, after its page was written or that failed. It is

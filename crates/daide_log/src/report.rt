@@ -1,17 +1,14 @@
 //! The lines of a report. Each is appended directly to the page, which must have room for any line.
 
-ghost use Rattle.std.specs.Prelude.{◌≡◌, ◌<◌, ◌≤◌, ◌+◌, ◌%◌, [], ◌∷◌, ◌++◌, codes, length, Some, None, IfOk};
+ghost use Rattle.std.specs.Prelude.{◌≡◌, ◌<◌, ◌≤◌, ◌+◌, ◌%◌, [], ◌∷◌, ◌++◌, codes, length, Some, None};
 ghost use Rattle.std.specs.Fmt.{decimal};
 ghost use Rattle.daide_log_lines.specs.Output.{page_size};
 ghost use Rattle.daide_log.specs.Report.{line_room, name_of_side, move_text, source_text, reported_text, move_line};
-ghost use Rattle.daide_log.specs.Report.{summary_line as last_line, session_text, size_text, part_line, cut_line};
+ghost use Rattle.daide_log.specs.Report.{summary_line, session_text, size_text, part_line, cut_line};
 
-use arrayvec::ArrayString;
 use daide_frame::{Code, Head, Side};
 use daide_log_lines::page::Page;
 use daide_protocol::{Deed, Note, Summary};
-use std::fmt;
-use std::fmt::Write;
 
 /// More bytes than any line of a report has.
 pub const LINE: usize = 128;
@@ -301,15 +298,19 @@ pub(crate) fn write_cut(number: u32, line: &mut Page)
     put(b" is cut\n", line);
 }
 
-/// The greatest length of the last line of a report.
-const LAST_LINE: usize = Summary::LONGEST + 1;
-
-/// Returns the last line of a report. Fails if it is longer than `LAST_LINE`, which no counts cause.
+/// Appends the last line of a report.
 #[tactic(auto, unfolding(crate::specs::Report::summary_line))]
-pub(crate) fn last_line(summary: Summary) -> Result<ArrayString<LAST_LINE>, fmt::Error>
-    ensures { IfOk result (λ line. line.bytes ≡ last_line summary) }
+pub(crate) fn write_summary(summary: Summary, line: &mut Page)
+    requires { length line.old.items + line_room ≤ page_size }
+    ensures { line.new.items ≡ line.old.items ++ summary_line summary }
 {
-    let mut line = ArrayString::new();
-    writeln!(line, "{summary}")?;
-    Ok(line)
+    put(b"relayed ", line);
+    put_number(summary.relayed, line);
+    put(b" prn ", line);
+    put_number(summary.prn, line);
+    put(b" huh ", line);
+    put_number(summary.huh, line);
+    put(b" faults ", line);
+    put_number(summary.faults, line);
+    line.push(b'\n');
 }

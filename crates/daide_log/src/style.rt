@@ -4,6 +4,7 @@ ghost use Rattle.std.specs.Prelude.{◌≡◌, ◌≤◌, ⊤, ℕ, All, List, l
 ghost use Rattle.std.specs.Io.KnownBytes.{Appends};
 ghost use Rattle.daide_words.specs.declared.word.Word.{Word};
 ghost use Rattle.daide_words.specs.Words.{words_of};
+ghost use Rattle.daide_causes.specs.Causes.{HasFailed};
 ghost use Rattle.daide_log_lines.specs.Output.{IsSameWriter, all_of};
 ghost use Rattle.daide_protocol.specs.Bounds.{most_sessions};
 ghost use Rattle.daide_protocol.specs.Events.{Event};
@@ -18,12 +19,12 @@ ghost use Rattle.daide_log.specs.Proofs.Lawful.{plain_lawful};
 use crate::heading::Preamble;
 use crate::page::Unreported;
 use crate::report::ReportKey;
+use daide_causes::Sink;
 use daide_frame::Side;
 use daide_log_lines::output::Output;
 use daide_protocol::{Note, Summary};
 use daide_session::Session;
 use std::alloc::Allocator;
-use std::io::Write;
 
 /// The parts of a report beside the lines of moves and of the counts, and the result of a check.
 pub trait Style {
@@ -35,8 +36,11 @@ pub trait Style {
     /// What the style knows of earlier entries.
     ghost knows: { (words : List Word) → Self → (form words).Context → Type 0 };
 
+    /// Memory was refused for a text of the style.
+    ghost refused: { Type 0 };
+
     /// Writes the lines that follow the line of a side's move. The session still holds the frame that caused it.
-    fn explain<A: Allocator, W: Write>(
+    fn explain<A: Allocator, W: Sink>(
         &mut self,
         head: &Preamble,
         session: &Session<A>,
@@ -50,11 +54,11 @@ pub trait Style {
         ensures text { OnOk result (ReportsMove (form (words_of head.now.words)) (knows (words_of head.now.words) self.old)
             (knows (words_of head.now.words) self.new) source side reported session.now (λ added. added)
             (all_of W.contents output.old) (all_of W.contents output.new)) }
-        ensures refused { IfErr result (IsCauseIn (form (words_of head.now.words))) }
+        ensures refused { IfErr result (IsCauseIn (form (words_of head.now.words)) (HasFailed W.Fails) refused) }
         ensures same_writer { IsSameWriter output.old output.new };
 
     /// Writes what the report has for a line itself, apart from the moves of a session.
-    fn quote<W: Write>(
+    fn quote<W: Sink>(
         &mut self,
         head: &Preamble,
         line: &[u8],
@@ -63,7 +67,7 @@ pub trait Style {
         ensures text { OnOk result ((text : List ℕ)
             × IsQuietWith (form (words_of head.now.words)) line.now text
             × Appends (all_of W.contents output.old) (all_of W.contents output.new) text) }
-        ensures refused { IfErr result (IsCauseIn (form (words_of head.now.words))) }
+        ensures refused { IfErr result (IsCauseIn (form (words_of head.now.words)) (HasFailed W.Fails) refused) }
         ensures known { (context : (form (words_of head.now.words)).Context) →
             knows (words_of head.now.words) self.old context → knows (words_of head.now.words) self.new context }
         ensures same_writer { IsSameWriter output.old output.new };
@@ -73,7 +77,7 @@ pub trait Style {
         ensures { (words : List Word) → (form words).cuts ≡ result };
 
     /// Writes what precedes the counts, and returns the result. `cut` is the number of the last line if it is cut.
-    fn close<A: Allocator, W: Write>(
+    fn close<A: Allocator, W: Sink>(
         &mut self,
         head: &Preamble,
         sessions: &[Session<A>],
@@ -87,7 +91,7 @@ pub trait Style {
             (answer ≡ (form (words_of head.now.words)).answer summary cut head.now.version (states_of sessions.now))
             × Appends (all_of W.contents output.old) (all_of W.contents output.new)
             ((form (words_of head.now.words)).closing cut head.now.version (states_of sessions.now))) }
-        ensures refused { IfErr result (IsCauseIn (form (words_of head.now.words))) }
+        ensures refused { IfErr result (IsCauseIn (form (words_of head.now.words)) (HasFailed W.Fails) refused) }
         ensures same_writer { IsSameWriter output.old output.new };
 
     ghost lawful: { (words : List Word) → IsWritableForm words (form words) };
@@ -104,8 +108,10 @@ impl Style for PlainStyle {
 
     ghost knows = { λ words style context. ⊤ };
 
+    ghost refused = { ⊥ };
+
     #[inline(always)]
-    fn explain<A: Allocator, W: Write>(
+    fn explain<A: Allocator, W: Sink>(
         &mut self,
         _head: &Preamble,
         _session: &Session<A>,
@@ -118,7 +124,7 @@ impl Style for PlainStyle {
     }
 
     #[inline(always)]
-    fn quote<W: Write>(
+    fn quote<W: Sink>(
         &mut self,
         _head: &Preamble,
         _line: &[u8],
@@ -133,7 +139,7 @@ impl Style for PlainStyle {
     }
 
     #[inline(always)]
-    fn close<A: Allocator, W: Write>(
+    fn close<A: Allocator, W: Sink>(
         &mut self,
         _head: &Preamble,
         _sessions: &[Session<A>],

@@ -1,6 +1,7 @@
 //! Reports with explanations, worked out from the protocol.
 
 use daide_log::{LogFault, check_log, explain_log};
+use daide_log_lines::text::LONGEST_LINE;
 use daide_test_support::rows::{holds, same};
 use std::alloc::Global;
 use std::test::Fail;
@@ -75,6 +76,65 @@ const ROWS: &[(&str, &str, u32)] = &[
     ),
 ];
 
+/// The first lines of a record, and their report.
+const BEGUN: &str =
+    "daide-log 2\nconfig 60 1024 16 1 0\n1 bot 000000040001DA10\n1 server 01000000\n";
+
+const BEGUN_REPORT: &str = "3 1 bot IM 4 relay\n4 1 server RM 0 relay\n";
+
+/// The last line of a record.
+const LAST_LINE: &str = "1 bot 02000002480F";
+
+/// What the report of `BEGUN` and a part of `LAST_LINE` has after that of `BEGUN`, if the line is cut.
+const CUT: &str = "    line 5 is cut\nrelayed 2 prn 0 huh 0 faults 0\n";
+
+/// A length of `LAST_LINE` at which it is no cut line | what the report has after that of `BEGUN` | the number of
+/// incomplete frames.
+const PARTS: &[(usize, &str, u32)] = &[
+    (0, "relayed 2 prn 0 huh 0 faults 0\n", 0),
+    (
+        8,
+        "    1 bot: 1 of 4 bytes of a header\nrelayed 2 prn 0 huh 0 faults 0\n",
+        1,
+    ),
+    (
+        10,
+        "    1 bot: 2 of 4 bytes of a header\nrelayed 2 prn 0 huh 0 faults 0\n",
+        1,
+    ),
+    (
+        12,
+        "    1 bot: 3 of 4 bytes of a header\nrelayed 2 prn 0 huh 0 faults 0\n",
+        1,
+    ),
+    (
+        14,
+        "    1 bot: 4 of 6 bytes of a frame\nrelayed 2 prn 0 huh 0 faults 0\n",
+        1,
+    ),
+    (
+        16,
+        "    1 bot: 5 of 6 bytes of a frame\nrelayed 2 prn 0 huh 0 faults 0\n",
+        1,
+    ),
+    (
+        18,
+        "5 1 bot DM 2 relay\n    OBS\nrelayed 3 prn 0 huh 0 faults 0\n",
+        0,
+    ),
+];
+
+/// Returns what the report of `BEGUN` and these first bytes of `LAST_LINE` has after that of `BEGUN`, and the number of
+/// incomplete frames.
+fn rest_of_report(length: usize) -> (&'static str, u32) {
+    for (other, rest, unfinished) in PARTS {
+        if *other == length {
+            return (rest, *unfinished);
+        }
+    }
+    (CUT, 1)
+}
+
 /// Returns the number of incomplete frames or the fault, and the report.
 fn explained(alloc: Global, log: &str) -> Result<(Option<u32>, Option<LogFault>, String), Fail> {
     let mut bytes = log.as_bytes();
@@ -116,4 +176,36 @@ fn cut_lines_are_faults_elsewhere(rt: HostRuntime) -> Result<(), Fail> {
     let head = "daide-log 1\nconfig 60 10";
     let (_answer, fault, _written) = explained(alloc, head)?;
     same(&fault, &Some(LogFault::BadLine(2)), &head)
+}
+
+#[test]
+fn records_are_cut_at_each_byte_of_their_last_line(rt: HostRuntime) -> Result<(), Fail> {
+    let alloc = rt.alloc();
+    for length in 0..=LAST_LINE.len() {
+        let log = format!(in alloc; "{BEGUN}{}", &LAST_LINE[..length])?;
+        let (rest, unfinished) = rest_of_report(length);
+        let report = format!(in alloc; "{BEGUN_REPORT}{rest}")?;
+        let (answer, _fault, written) = explained(alloc, log.as_str())?;
+        same(&written, &report, &length)?;
+        same(&answer, &Some(unfinished), &length)?;
+    }
+    Ok(())
+}
+
+/// A last line without a form is cut at each length that a line may have.
+#[test]
+fn last_lines_of_each_length_are_cut(rt: HostRuntime) -> Result<(), Fail> {
+    let alloc = rt.alloc();
+    let mut log = format!(in alloc; "{BEGUN}")?;
+    let report = format!(in alloc; "{BEGUN_REPORT}{CUT}")?;
+    for length in 1..=LONGEST_LINE {
+        log.push('x')?;
+        let (answer, _fault, written) = explained(alloc, log.as_str())?;
+        same(&written, &report, &length)?;
+        same(&answer, &Some(1), &length)?;
+    }
+    log.push('x')?;
+    let (_answer, fault, written) = explained(alloc, log.as_str())?;
+    same(&written.as_str(), &BEGUN_REPORT, &"too long")?;
+    same(&fault, &Some(LogFault::LineTooLong(5)), &"too long")
 }

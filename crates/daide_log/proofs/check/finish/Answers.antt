@@ -12,7 +12,8 @@ pub returns-in-Err-Write-clause-written : goal.returns-in-Err-Write-clause-writt
 returns-in-Err-Write-clause-written g c = tt
 
 pub returns-in-Err-Write-clause-refused : goal.returns-in-Err-Write-clause-refused
-returns-in-Err-Write-clause-refused g c = inl refl
+returns-in-Err-Write-clause-refused g c =
+    inl (refl, rw c.in-Err-Write.field-0-is at c.in-Err-Write.ensures.refused)
 
 pub returns-in-Err-Write-clause-same_writer : goal.returns-in-Err-Write-clause-same_writer
 returns-in-Err-Write-clause-same_writer g c = c.close.ensures.same_writer
@@ -22,7 +23,7 @@ returns-in-Err-Memory-clause-written g c = tt
 
 pub returns-in-Err-Memory-clause-refused : goal.returns-in-Err-Memory-clause-refused
 returns-in-Err-Memory-clause-refused g c =
-    inr (refl, rw c.in-Err-Memory.field-0-is at c.in-Err-Memory.ensures.refused)
+    let h = rw c.in-Err-Memory.field-0-is at c.in-Err-Memory.ensures.refused in inr (refl, h.0, h.1)
 
 pub returns-in-Err-Memory-clause-same_writer : goal.returns-in-Err-Memory-clause-same_writer
 returns-in-Err-Memory-clause-same_writer g c = c.close.ensures.same_writer
@@ -47,7 +48,7 @@ pub returns-in-Err-clause-written : goal.returns-in-Err-clause-written
 returns-in-Err-clause-written g c = tt
 
 pub returns-in-Err-clause-refused : goal.returns-in-Err-clause-refused
-returns-in-Err-clause-refused g c = inl refl
+returns-in-Err-clause-refused g c = inl (refl, c.in-Err.ensures.refused.1)
 
 pub returns-in-Err-clause-same_writer : goal.returns-in-Err-clause-same_writer
 returns-in-Err-clause-same_writer g c = c.put_summary.ensures.same_writer ∙ c.close.ensures.same_writer

@@ -9,6 +9,8 @@ use Rattle.daide_log.specs.declared.heading.Preamble.{Preamble}
 use Rattle.daide_log.specs.Log.{event_in}
 use Rattle.daide_log.proofs.EventLemmas.{plays_first, plays_more, finished_at_end, finished_at_last, finished_at_cut, fault_in_play}
 use Rattle.daide_log.proofs.EventLemmas.{nothing_reported, unfinished, fault_handed_on, bad_in_play, at_end, at_last_line, as_line}
+use Rattle.daide_causes.specs.Causes.{HasFailed}
+use Rattle.daide_log.proofs.CauseLemmas.{handed_on, more_causes, judged_cause, late_causes}
 use Rattle.daide_log.proofs.check.play.Goals as goal
 
 -- a further line has room in the counts
@@ -70,17 +72,45 @@ returns-in_err-judge_line-clause-answered g c = λ first before starts. (
       (sym c.lines.invariant.3)
       (subst (λ (l : List ℕ). event_in c.args.account.now.head.version (length c.lines.sessions.items) l ≡ None)
       (sym c.line-line.ensures) wrong)) (words_of c.args.account.now.head.words))
-      (subst (λ (h : Preamble). IsLateFault (g.S.Style.form (words_of h.words)) c.in_err-judge_line.field-0.0
+      (subst (λ (h : Preamble). IsLateFault (g.S.Style.form (words_of h.words)) (HasFailed g.W.Sink.Fails) g.S.Style.refused c.in_err-judge_line.field-0.0
       ⊎ ((c.in_err-judge_line.field-0.0 ≡ BadLine (c.lines.count + 1))
       × (event_in h.version (length c.lines.sessions.items)
       (line_at c.in_ok-found.found c.find_line.new.input.block c.find_line.new.input.text.items) ≡ None)
       × (all_of g.W.Write.contents c.judge_line.new.account.output ≡ all_of g.W.Write.contents c.find_line.new.output))) c.lines.invariant.3
-      (subst (λ (l : List ℕ). IsLateFault (g.S.Style.form (words_of c.lines.account.head.words)) c.in_err-judge_line.field-0.0
+      (subst (λ (l : List ℕ). IsLateFault (g.S.Style.form (words_of c.lines.account.head.words)) (HasFailed g.W.Sink.Fails) g.S.Style.refused c.in_err-judge_line.field-0.0
       ⊎ ((c.in_err-judge_line.field-0.0 ≡ BadLine (c.lines.count + 1))
       × (event_in c.lines.account.head.version (length c.lines.sessions.items) l ≡ None)
       × (all_of g.W.Write.contents c.judge_line.new.account.output ≡ all_of g.W.Write.contents c.find_line.new.output)))
       c.line-line.ensures c.in_err-judge_line.ensures.refused)))) first before starts,
 )
+
+pub returns-in_err-found-clause-cause : goal.returns-in_err-found-clause-cause
+returns-in_err-found-clause-cause g c =
+    handed_on g.R.LogReader.Fails g.W.Sink.Fails g.S.Style.refused c.from_residual.result c.in_err-found.field-0.0 c.from_residual.ensures.1
+    (more_causes g.R.LogReader.Fails g.W.Sink.Fails c.in_err-found.field-0.0 (λ never. absurd never) c.in_err-found.ensures.cause)
+
+pub returns-in_err-judge_line-clause-cause : goal.returns-in_err-judge_line-clause-cause
+returns-in_err-judge_line-clause-cause g c =
+    handed_on g.R.LogReader.Fails g.W.Sink.Fails g.S.Style.refused c.from_residual-in_err-judge_line.result c.in_err-judge_line.field-0.0
+    c.from_residual-in_err-judge_line.ensures.1
+    (judged_cause g.R.LogReader.Fails g.W.Sink.Fails (g.S.Style.form (words_of c.lines.account.head.words)) g.S.Style.refused
+    (event_in c.lines.account.head.version (length c.lines.sessions.items) c.line-line.result.now ≡ None)
+    (all_of g.W.Write.contents c.judge_line.new.account.output ≡ all_of g.W.Write.contents c.find_line.new.output)
+    c.in_err-judge_line.field-0.0 (c.lines.count + 1) c.in_err-judge_line.ensures.refused)
+
+pub returns-then-is_end-clause-cause : goal.returns-then-is_end-clause-cause
+returns-then-is_end-clause-cause g c =
+    late_causes g.R.LogReader.Fails g.W.Sink.Fails (g.S.Style.form (words_of c.lines.account.head.words)) g.S.Style.refused c.finish.result c.finish.ensures.refused
+
+pub returns-then-is_last-clause-cause : goal.returns-then-is_last-clause-cause
+returns-then-is_last-clause-cause g c =
+    late_causes g.R.LogReader.Fails g.W.Sink.Fails (g.S.Style.form (words_of c.judge_line.new.account.head.words)) g.S.Style.refused c.finish-then-is_last.result
+    c.finish-then-is_last.ensures.refused
+
+pub returns-then-is_cut-clause-cause : goal.returns-then-is_cut-clause-cause
+returns-then-is_cut-clause-cause g c =
+    late_causes g.R.LogReader.Fails g.W.Sink.Fails (g.S.Style.form (words_of c.lines.account.head.words)) g.S.Style.refused c.finish-then-is_cut.result
+    c.finish-then-is_cut.ensures.refused
 
 pub returns-then-is_end-clause-answered : goal.returns-then-is_end-clause-answered
 returns-then-is_end-clause-answered g c = λ first before starts. (
@@ -100,13 +130,13 @@ returns-then-is_end-clause-answered g c = λ first before starts. (
       (states_of c.lines.sessions.items) c.lines.account.summary (all_of g.W.Write.contents c.find_line.new.output)
       (all_of g.W.Write.contents c.finish.new.account.output) answer)) c.lines.invariant.3 (rw c.deref.ensures.value at c.finish.ensures.written))) first before starts,
   (
-      unfinished (g.S.Style.form (words_of c.args.account.now.head.words)) (IsReady c.args.account.now.head.limits.config (words_of c.args.account.now.head.words)) _ _ (g.R.LogReader.reader_view c.lines.input.reader.now) (g.R.LogReader.reader_view c.find_line.new.input.reader.now)
+      unfinished (g.S.Style.form (words_of c.args.account.now.head.words)) (HasFailed g.W.Sink.Fails) g.S.Style.refused (IsReady c.args.account.now.head.limits.config (words_of c.args.account.now.head.words)) _ _ (g.R.LogReader.reader_view c.lines.input.reader.now) (g.R.LogReader.reader_view c.find_line.new.input.reader.now)
       c.lines.input.block (rest_after c.in_ok-found.found c.find_line.new.input.block)
       (line_at c.in_ok-found.found c.find_line.new.input.block c.find_line.new.input.text.items) c.lines.count
       c.args.account.now.head.version c.lines.sessions.items (length c.args.sessions.now.items) c.lines.account.summary
       (all_of g.W.Write.contents c.lines.account.output) (all_of g.W.Write.contents c.finish.new.account.output)
       c.in_ok-found.found c.finish.result c.lines.invariant.0 c.in_ok-found.ensures.found
-      (subst (λ (h : Preamble). IfErr c.finish.result (IsLateFault (g.S.Style.form (words_of h.words)))) c.lines.invariant.3
+      (subst (λ (h : Preamble). IfErr c.finish.result (IsLateFault (g.S.Style.form (words_of h.words)) (HasFailed g.W.Sink.Fails) g.S.Style.refused)) c.lines.invariant.3
       c.finish.ensures.refused)) first before starts,
 )
 
@@ -147,14 +177,14 @@ returns-then-is_last-clause-answered g c = λ first before starts. (
       (all_of g.W.Write.contents c.judge_line.new.account.output) (all_of g.W.Write.contents c.finish-then-is_last.new.account.output) answer))
       (c.judge_line.ensures.same_head ∙ c.lines.invariant.3) (rw c.deref-then-is_last.ensures.value at c.finish-then-is_last.ensures.written))) first before starts,
   (
-      unfinished (g.S.Style.form (words_of c.args.account.now.head.words)) (IsReady c.args.account.now.head.limits.config (words_of c.args.account.now.head.words)) _ _ (g.R.LogReader.reader_view c.lines.input.reader.now) (g.R.LogReader.reader_view c.find_line.new.input.reader.now)
+      unfinished (g.S.Style.form (words_of c.args.account.now.head.words)) (HasFailed g.W.Sink.Fails) g.S.Style.refused (IsReady c.args.account.now.head.limits.config (words_of c.args.account.now.head.words)) _ _ (g.R.LogReader.reader_view c.lines.input.reader.now) (g.R.LogReader.reader_view c.find_line.new.input.reader.now)
       c.lines.input.block (rest_after c.in_ok-found.found c.find_line.new.input.block)
       (line_at c.in_ok-found.found c.find_line.new.input.block c.find_line.new.input.text.items) c.lines.count
       c.args.account.now.head.version
       c.lines.sessions.items (length c.args.sessions.now.items) c.lines.account.summary
       (all_of g.W.Write.contents c.lines.account.output) (all_of g.W.Write.contents c.finish-then-is_last.new.account.output)
       c.in_ok-found.found c.finish-then-is_last.result c.lines.invariant.0 c.in_ok-found.ensures.found
-      (subst (λ (h : Preamble). IfErr c.finish-then-is_last.result (IsLateFault (g.S.Style.form (words_of h.words))))
+      (subst (λ (h : Preamble). IfErr c.finish-then-is_last.result (IsLateFault (g.S.Style.form (words_of h.words)) (HasFailed g.W.Sink.Fails) g.S.Style.refused))
       (c.judge_line.ensures.same_head ∙ c.lines.invariant.3) c.finish-then-is_last.ensures.refused)) first before starts,
 )
 
@@ -185,13 +215,13 @@ returns-then-is_cut-clause-answered g c = λ first before starts. (
       (all_of g.W.Write.contents c.find_line.new.output) (all_of g.W.Write.contents c.finish-then-is_cut.new.account.output) answer))
       c.lines.invariant.3 (rw c.deref-then-is_cut.ensures.value at c.finish-then-is_cut.ensures.written))) first before starts,
   (
-      unfinished (g.S.Style.form (words_of c.args.account.now.head.words)) (IsReady c.args.account.now.head.limits.config (words_of c.args.account.now.head.words)) _ _ (g.R.LogReader.reader_view c.lines.input.reader.now) (g.R.LogReader.reader_view c.find_line.new.input.reader.now)
+      unfinished (g.S.Style.form (words_of c.args.account.now.head.words)) (HasFailed g.W.Sink.Fails) g.S.Style.refused (IsReady c.args.account.now.head.limits.config (words_of c.args.account.now.head.words)) _ _ (g.R.LogReader.reader_view c.lines.input.reader.now) (g.R.LogReader.reader_view c.find_line.new.input.reader.now)
       c.lines.input.block (rest_after c.in_ok-found.found c.find_line.new.input.block)
       (line_at c.in_ok-found.found c.find_line.new.input.block c.find_line.new.input.text.items) c.lines.count
       c.args.account.now.head.version c.lines.sessions.items (length c.args.sessions.now.items) c.lines.account.summary
       (all_of g.W.Write.contents c.lines.account.output) (all_of g.W.Write.contents c.finish-then-is_cut.new.account.output)
       c.in_ok-found.found c.finish-then-is_cut.result c.lines.invariant.0 c.in_ok-found.ensures.found
-      (subst (λ (h : Preamble). IfErr c.finish-then-is_cut.result (IsLateFault (g.S.Style.form (words_of h.words)))) c.lines.invariant.3
+      (subst (λ (h : Preamble). IfErr c.finish-then-is_cut.result (IsLateFault (g.S.Style.form (words_of h.words)) (HasFailed g.W.Sink.Fails) g.S.Style.refused)) c.lines.invariant.3
       c.finish-then-is_cut.ensures.refused)) first before starts,
 )
 

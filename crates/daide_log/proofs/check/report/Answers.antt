@@ -1,6 +1,10 @@
 use Rattle.daide_log.proofs.Common.{subst, sym, [], List, None, arith, ap, length, ◌∙◌, IfOk, not, replicate}
 use Rattle.daide_log.proofs.Common.{SessionView, all_of, SessionState, initial_state, limits_with, words_of}
 use Rattle.daide_log.proofs.Common.{preamble_of, HasRead, HasReadAll, IsFinished, states_of, keeps_appends}
+use Rattle.daide_log.proofs.Common.{◌⊎◌, inl, inr}
+use Rattle.daide_causes.specs.Causes.{HasFailed, WasRefused}
+use Rattle.daide_log_lines.specs.Cause.{HasCause}
+use Rattle.daide_log.proofs.CauseLemmas.{late_causes, more_at_err, more_causes}
 use Rattle.daide_log.specs.Log.{Playing, state_after_preamble}
 use Rattle.daide_log.proofs.LogLemmas.{fault_at_once, finished, write_failed}
 use Rattle.daide_log.proofs.PreambleLemmas.{as_many, opened_last, opened_more, memory_wanted}
@@ -29,9 +33,28 @@ returns-in-Err-open_sessions-clause-reported g c =
             (g.R.LogReader.reader_view c.read_preamble.new.input.reader.now)
             c.read_preamble.new.input.block (all_of g.W.Write.contents c.args.account.now.output)
             (all_of g.W.Write.contents c.read_preamble.new.output) c.in-Err-open_sessions.fault
-            c.in-Err-open_sessions.ensures.refused c.in-Ok.ensures.opened c.in-Ok.ensures.kept,
+            c.in-Err-open_sessions.ensures.refused.0 c.in-Ok.ensures.opened c.in-Ok.ensures.kept,
       ),
     )
+
+pub returns-in-Err-clause-cause : goal.returns-in-Err-clause-cause
+returns-in-Err-clause-cause g c = more_causes g.R.LogReader.Fails g.W.Sink.Fails c.in-Err.fault (λ never. absurd never) c.in-Err.ensures.cause
+
+pub returns-in-Err-open_sessions-clause-cause : goal.returns-in-Err-open_sessions-clause-cause
+returns-in-Err-open_sessions-clause-cause g c =
+    subst (HasCause g.R.LogReader.Fails g.W.Sink.Fails (WasRefused g.A.Memory.Refuses ⊎ g.S.Style.refused))
+    (sym c.in-Err-open_sessions.ensures.refused.0) (inl c.in-Err-open_sessions.ensures.refused.1)
+
+pub returns-then-not-opened-clause-cause : goal.returns-then-not-opened-clause-cause
+returns-then-not-opened-clause-cause g c =
+    more_at_err g.R.LogReader.Fails g.W.Sink.Fails c.finish.result inr (late_causes g.R.LogReader.Fails g.W.Sink.Fails (g.S.Style.form (words_of c.in-Ok.opened.head.words)) g.S.Style.refused
+    c.finish.result c.finish.ensures.refused)
+
+pub returns-clause-cause : goal.returns-clause-cause
+returns-clause-cause g c = more_at_err g.R.LogReader.Fails g.W.Sink.Fails c.play.result inr c.play.ensures.cause
+
+pub open_sessions-requires : goal.open_sessions-requires
+open_sessions-requires g c = c.in-Ok.ensures.within.2
 
 pub finish-requires-clause-ready : goal.finish-requires-clause-ready
 finish-requires-clause-ready g c = rw c.deref.ensures.value c.in-Ok-open_sessions.ensures.ready
@@ -62,7 +85,7 @@ returns-then-not-opened-clause-reported g c =
             (subst (λ (l : List SessionState). IfOk c.finish.result (λ answer. IsFinished (g.S.Style.form words) None head.version l
             c.args.account.now.summary mid (all_of g.W.Write.contents c.finish.new.account.output) answer))
             (ap states_of c.deref.ensures.value ∙ c.in-Ok-open_sessions.ensures.begun) c.finish.ensures.written),
-        write_failed (g.S.Style.form words) old new first (all_of g.W.Write.contents c.finish.new.account.output) c.finish.result
+        write_failed (g.S.Style.form words) (HasFailed g.W.Sink.Fails) g.S.Style.refused old new first (all_of g.W.Write.contents c.finish.new.account.output) c.finish.result
             (read.given, read.gives) c.finish.ensures.refused,
       ),
     )

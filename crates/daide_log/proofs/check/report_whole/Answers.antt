@@ -1,6 +1,11 @@
 use Rattle.daide_log.proofs.Common.{all_of}
 use Rattle.daide_log.proofs.LogLemmas.{refused_rest, reported_rest}
+use Rattle.daide_log.proofs.CauseLemmas.{rest_cause}
 use Rattle.daide_log.proofs.check.report_whole.Goals as goal
+
+pub returns-clause-cause : goal.returns-clause-cause
+returns-clause-cause g c =
+    rest_cause g.R.LogReader.Fails g.W.Sink.Fails _ c.report-answer.result c.hand_over_rest.result c.hand_over_rest.ensures.cause c.report-answer.ensures.cause
 
 pub returns-clause-reported : goal.returns-clause-reported
 returns-clause-reported g c =

@@ -11,8 +11,8 @@ pub write_message-requires-clause-verdict : goal.write_message-requires-clause-v
 write_message-requires-clause-verdict g c =
     rw (c.side2_of.ensures, c.noted.ensures, c.verdict_by.ensures, c.body.ensures.value) c.requires.right.verdict
 
-pub returns : goal.returns
-returns g c =
+pub returns-clause-text : goal.returns-clause-text
+returns-clause-text g c =
     rw (
       c.side2_of.ensures,
       c.verdict_by.ensures,
@@ -20,4 +20,4 @@ returns g c =
       c.capped_from.ensures,
       c.top_level-top.ensures (words_of c.args.head.now.words),
       c.noted.ensures,
-    ) at c.write_message.ensures
+    ) at c.write_message.ensures.text

@@ -3,10 +3,10 @@ use Rattle.daide_log.proofs.EventLemmas.{on_ok}
 use Rattle.daide_log.proofs.TextLemmas.{as_message}
 use Rattle.daide_log.proofs.explained.write_message.Goals as goal
 
-pub returns-in-Prn : goal.returns-in-Prn
-returns-in-Prn g c =
+pub returns-in-Prn-clause-text : goal.returns-in-Prn-clause-text
+returns-in-Prn-clause-text g c =
     let is = c.in-Prn.is in
-    on_ok c.write_refused.result _ _ c.write_refused.ensures
+    on_ok c.write_refused.result _ _ c.write_refused.ensures.text
     (λ t. (
       t.0,
       as_message (words_of c.args.rules.now.words.now) c.args.rules.now.end c.args.rules.now.level
@@ -14,10 +14,10 @@ returns-in-Prn g c =
       t.2,
     ))
 
-pub returns-in-Huh : goal.returns-in-Huh
-returns-in-Huh g c =
+pub returns-in-Huh-clause-text : goal.returns-in-Huh-clause-text
+returns-in-Huh-clause-text g c =
     let is = c.in-Huh.is in
-    on_ok c.write_refused-in-Huh.result _ _ c.write_refused-in-Huh.ensures
+    on_ok c.write_refused-in-Huh.result _ _ c.write_refused-in-Huh.ensures.text
     (λ t. (
       t.0,
       as_message (words_of c.args.rules.now.words.now) c.args.rules.now.end c.args.rules.now.level

@@ -1,5 +1,6 @@
 use Rattle.daide_log.proofs.Common.{◌∙◌, subst, Side, words_of, all_of, event_reported, events_of_line, ReportsEvents}
 use Rattle.daide_log.proofs.PlayLemmas.{bare}
+use Rattle.daide_causes.specs.Causes.{HasFailed}
 use Rattle.daide_log.proofs.EventLemmas.{as_reported, on_ok, refused_late}
 use Rattle.daide_log.proofs.judge.judge.Goals as goal
 
@@ -9,7 +10,7 @@ returns-in-Received-clause-judged g c =
 
 pub returns-in-Received-clause-refused : goal.returns-in-Received-clause-refused
 returns-in-Received-clause-refused g c =
-    refused_late (g.S.Style.form (words_of c.args.account.now.head.words)) c.feed_all.result c.as_fault.result c.as_fault.ensures
+    refused_late (HasFailed g.W.Sink.Fails) g.S.Style.refused (g.S.Style.form (words_of c.args.account.now.head.words)) c.feed_all.result c.as_fault.result c.as_fault.ensures
     c.feed_all.ensures.refused
 
 pub apply-side-requires-clause-bare : goal.apply-side-requires-clause-bare
@@ -43,5 +44,5 @@ returns-clause-judged g c =
 
 pub returns-clause-refused : goal.returns-clause-refused
 returns-clause-refused g c =
-    refused_late (g.S.Style.form (words_of c.args.account.now.head.words)) c.report_move.result c.as_fault-2.result
+    refused_late (HasFailed g.W.Sink.Fails) g.S.Style.refused (g.S.Style.form (words_of c.args.account.now.head.words)) c.report_move.result c.as_fault-2.result
     c.as_fault-2.ensures c.report_move.ensures.refused

@@ -2,8 +2,9 @@ use Rattle.daide_log.proofs.Common.{◌∙◌, refl, sym, ap, subst, arith, List
 use Rattle.daide_log.proofs.Common.{heading_after, heading_of, HasRead, IsPreambleProgress}
 use Rattle.daide_log.specs.Log.{Opening}
 use Rattle.daide_log_lines.proofs.PageLemmas.{keeps_all, keeps_more}
+use Rattle.daide_log.proofs.CauseLemmas.{head_cause}
 use Rattle.daide_log.proofs.LogLemmas.{nothing_read}
-use Rattle.daide_log.proofs.PreambleLemmas.{head_judged, step_kept, fault_keeps, next_is, next_held}
+use Rattle.daide_log.proofs.PreambleLemmas.{head_judged, step_kept, fault_keeps, next_is, next_held, done_held}
 use Rattle.daide_log.proofs.opening.read_preamble.Goals as goal
 
 pub lines-init : goal.lines-init
@@ -33,6 +34,11 @@ returns-in-Err-clause-opened g c =
     c.next_line-found.ensures.found
     (c.with_next-more.ensures.heading ∙ ap (heading_after (heading_of c.lines.heading)) c.as_slice.ensures.value))
 
+pub returns-in-Err-clause-cause : goal.returns-in-Err-clause-cause
+returns-in-Err-clause-cause g c =
+    head_cause g.R.LogReader.Fails g.W.Sink.Fails c.next_line-found.result c.with_next-more.result c.lines.count ⊥ c.in-Err.fault
+    (sym c.after_line.ensures ∙ c.in-Err.is) c.next_line-found.ensures.cause
+
 pub returns-in-Err-clause-kept_at_fault : goal.returns-in-Err-clause-kept_at_fault
 returns-in-Err-clause-kept_at_fault g c other =
     let first = all_of g.W.Write.contents c.args.output.now in
@@ -41,6 +47,11 @@ returns-in-Err-clause-kept_at_fault g c other =
     keeps_more first mid last c.lines.invariant.0.kept
     (fault_keeps c.next_line-found.result c.with_next-more.result c.lines.count c.in-Err.fault _
     (sym c.after_line.ensures ∙ c.in-Err.is) c.next_line-found.ensures.kept c.next_line-found.ensures.kept_at_fault other)
+
+pub returns-in-Ok-Done-clause-within : goal.returns-in-Ok-Done-clause-within
+returns-in-Ok-Done-clause-within g c =
+    done_held c.next_line-found.result c.with_next-more.result c.lines.count c.in-Ok-Done.opened
+    (sym c.after_line.ensures ∙ c.in-Ok-Done.is ∙ ap Ok c.in-Ok-Done.field-0-is) c.with_next-more.ensures.within
 
 pub returns-in-Ok-Done-clause-opened : goal.returns-in-Ok-Done-clause-opened
 returns-in-Ok-Done-clause-opened g c =

@@ -58,7 +58,7 @@ pub returns-clause-text : goal.returns-clause-text
 returns-clause-text g c =
     let config = c.args.head.now.limits.config in
     let words = words_of c.args.head.now.words in
-    let written = c.in-Ok.ensures in
+    let written = c.in-Ok.ensures.text in
     let text = c.as_slice.ensures.value ∙ written.2 ∙ ap (λ (l : List ℕ). l ++ written.0) c.clear.ensures.items in
     on_ok c.put_indented.result _ _ c.put_indented.ensures.text
     (λ appends levels known. (

@@ -1,0 +1,6 @@
+use Rattle.daide_causes.specs.Causes.{WasRefused}
+use Rattle.daide_log.proofs.CauseLemmas.{plain_causes}
+use Rattle.daide_log.proofs.observer.check_observed.Goals as goal
+
+pub returns-clause-cause : goal.returns-clause-cause
+returns-clause-cause g c = plain_causes g.R.Source.Fails g.W.Sink.Fails (WasRefused g.A.Memory.Refuses) c.report_stream.result c.report_stream.ensures.cause
