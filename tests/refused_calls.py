@@ -47,18 +47,36 @@ def folder_whose_test_file_stays_begins_no_run(program):
         check_ran(ran, wanted, "a run that can't remove a file")
 
 
-class Clockless(Scene):
-    """A scene of a run that can't read the clock."""
+class Preloaded(Scene):
+    """A scene of a run into which a library is preloaded. `made` compiles it into a folder, and returns its path."""
 
     def play(self, program):
         """Plays the scene with the library."""
         with tempfile.TemporaryDirectory() as room:
-            self.library = refusing(room, "clock_gettime")
+            self.library = self.made(room)
             super().play(program)
 
     def conditions(self, watcher=()):
         """Returns the conditions of a run into which the library is preloaded."""
         return super().conditions(("env", f"LD_PRELOAD={self.library}", *watcher))
+
+
+class Clockless(Preloaded):
+    """A scene of a run that can't read the clock."""
+
+    @staticmethod
+    def made(room):
+        """Compiles the library."""
+        return refusing(room, "clock_gettime")
+
+
+class Pageless(Preloaded):
+    """A scene of a run that gets no page for a record: no memory of the size of a page with its length."""
+
+    @staticmethod
+    def made(room):
+        """Compiles the library."""
+        return compiled(room, "refusing.c", "-DREFUSED_SIZE=8200")
 
 
 # No line says how long a session lasted.
@@ -67,6 +85,12 @@ daide-gate: session 1 began: bot at 127.0.0.1:{0}
 daide-gate: session 1 ended: FM of bot; bot 2 relayed 0 prn 0 huh; server 1 relayed 0 prn 0 huh; 0 faults; level 0
 """
 
+# A record has a page of 8,192 bytes. Without it the session is not recorded, and no file is made.
+TELLS_NO_PAGE = "daide-gate: session 1 is not recorded: its file could not be made (out of memory)\n"
+
 TESTS = [socket_whose_mode_cannot_be_set_begins_no_run, folder_whose_test_file_stays_begins_no_run]
 
-SCENES = [Clockless("run_without_a_clock_serves", OPENS_AND_ENDS, told=TELLS_NO_TIME, verbose=True, recorded=1)]
+SCENES = [
+    Clockless("run_without_a_clock_serves", OPENS_AND_ENDS, told=TELLS_NO_TIME, verbose=True, recorded=1),
+    Pageless("record_without_memory_is_told", OPENS_AND_ENDS, told=TELLS_NO_PAGE, recorded=0),
+]
