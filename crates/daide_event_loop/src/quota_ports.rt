@@ -142,6 +142,7 @@ impl<P: Ports> Ports for QuotaPorts<P> {
 
     ghost transition = { Meters P.transition };
 
+    #[inline(always)]
     fn pull(&mut self, side: Side, buffer: &mut [u8]) -> Pull {
         let pull = match self.turns_left {
             Some(_turns) => self.ports.pull(side, buffer),
@@ -160,6 +161,7 @@ impl<P: Ports> Ports for QuotaPorts<P> {
         pull
     }
 
+    #[inline(always)]
     fn put(&mut self, side: Side, bytes: &[u8]) -> Put {
         let put = match self.turns_left {
             Some(_turns) => self.ports.put(side, bytes),
@@ -177,6 +179,7 @@ impl<P: Ports> Ports for QuotaPorts<P> {
         put
     }
 
+    #[inline(always)]
     fn clock(&mut self) -> ClockEvent {
         let event = match self.turns_left {
             Some(_turns) => self.ports.clock(),
