@@ -8,7 +8,7 @@ use Rattle.std.specs.declared.time.Instant.{Instant}
 use Rattle.daide_buffered_io.specs.declared.readiness.Readiness.{Readiness}
 use Rattle.daide_sockets.specs.declared.admission.Acceptor.{Acceptor}
 use Rattle.daide_sockets.specs.Accepting.{is_accept_made, is_accept_due, is_bot_due, accept_pause, connection_given}
-use Rattle.daide_sockets.specs.Accepting.{AcceptsOnce, AcceptsOneBot, BringsNoBot, FollowsAtMostOnce, FollowsAccepted, ConnectsOnce, ConnectsFrom}
+use Rattle.daide_sockets.specs.Accepting.{AcceptsOnce, AcceptsOneBot, BringsBot, BringsNoBot, FollowsAtMostOnce, FollowsAccepted, ConnectsOnce, ConnectsFrom}
 use Rattle.daide_sockets.specs.Accepting.{Fails, MayNotCome, IsRefused, TriesOn, IsUnreached, IsLate, TriedAll}
 use Rattle.daide_sockets.specs.Table.{Table, freed, listener_key, report_at, without_report}
 use Rattle.daide_sockets.specs.KeptRows.{ChangesRows}
@@ -95,7 +95,7 @@ module _ {N C : Type 0} (transition : N → NetworkCall C → N → Type 0) wher
   connects_on addresses place tried count address old mid new at listed before once =
       (suc count, omega (arith, at), (mid, address, before, rw at at listed, once))
 
-  -- ---- an accept that brings no bot
+  -- ---- an accept that brings a bot, or none
 
   accepted_is : (accepted : Result (C × SocketAddr) Error) (came : C × SocketAddr) → Some came ≡ connection_given accepted →
       accepted ≡ Ok came
@@ -105,6 +105,16 @@ module _ {N C : Type 0} (transition : N → NetworkCall C → N → Type 0) wher
   accepts : (came : C × SocketAddr) (old mid : N) → AcceptsOnce transition old mid (Some came) →
       transition old (AcceptsConnection (Ok came)) mid
   accepts came old mid once = rw (accepted_is once.accepted came once.given) at once.call
+
+  pub brings_bot : (given : C) (address : SocketAddr) (key : ℕ) (connection : C) (old mid new : N) →
+      AcceptsOnce transition old mid (Some (given, address)) → transition mid (Follows given key true connection) new →
+      BringsBot transition address key connection old new
+  brings_bot given address key connection old mid new once follows = record {
+    given = given;
+    mid = mid;
+    accepts = accepts (given, address) old mid once;
+    follows = follows;
+  }
 
   module _ (may_come : SocketAddr → Bool) (old mid : N) where
     failed : (accepted : Result (C × SocketAddr) Error) → transition old (AcceptsConnection accepted) mid →

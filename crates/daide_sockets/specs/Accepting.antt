@@ -141,6 +141,15 @@ pub record AcceptsThenConnects {N C : Type 0} (transition : N → NetworkCall C 
   pub count : ℕ
   pub connects : ConnectsFrom transition addresses 0 count mid new
 
+-- One accept was made, which gave a connection with this address, and then one call by which that connection is followed under
+-- this key, as this one. So the bot of this connection has the address that the network returned.
+pub record BringsBot {N C : Type 0} (transition : N → NetworkCall C → N → Type 0) (address : SocketAddr) (key : ℕ)
+    (connection : C) (old new : N) : Type 0 where
+  pub given : C
+  pub mid : N
+  pub accepts : transition old (AcceptsConnection (Ok (given, address))) mid
+  pub follows : transition mid (Follows given key true connection) new
+
 -- Why a due accept brings no bot: it failed; or its bot may not come, by its address; or the system refused to follow its
 -- connection.
 pub data BringsNoBot {N C : Type 0} (transition : N → NetworkCall C → N → Type 0) (may_come : SocketAddr → Bool) (old new : N) :

@@ -1,15 +1,18 @@
 -- The bots of a run that are there: those with a connect under way, and those of sessions. (own)
-use Rattle.std.specs.Prelude.{◌≡◌, ℕ, ◌+◌, ◌<◌, ◌==◌, nat_lt, true, List, [], ◌∷◌, ◌++◌, length, remove, slice_get, Option, Some, None, if◌then◌else◌, vec_capacity}
+use Rattle.std.specs.Prelude.{◌≡◌, ℕ, ◌+◌, ◌<◌, ◌==◌, nat_lt, true, List, [], ◌∷◌, ◌++◌, length, remove, slice_get, slice_set, Option, Some, None, if◌then◌else◌, vec_capacity}
 use Rattle.std.specs.Net.Socket.{socket_ip}
 use Rattle.std.specs.declared.net.socket_addr.SocketAddr.{SocketAddr}
 use Rattle.std.specs.declared.time.Instant.{Instant}
+use Rattle.daide_frame.specs.declared.side.Side.TheVariants as Sides
+use Rattle.daide_io.specs.Network.{NetworkCall}
 use Rattle.daide_settings.specs.Ranges.{host_of, may_come}
 use Rattle.daide_settings.specs.declared.settings.ranges.AddressRange.{AddressRange}
 use Rattle.daide_settings.specs.declared.settings.ranges.Host.{Host}
 use Rattle.daide_sockets.specs.declared.present.Bot.{Bot}
 use Rattle.daide_sockets.specs.declared.present.Present.{Present}
-use Rattle.daide_sockets.specs.declared.session_notice.SessionNotice.{SessionNotice}
-use Rattle.daide_sockets.specs.declared.session_notice.SessionNotice.TheVariants.{Began}
+use Rattle.daide_sockets.specs.Accepting.{BringsBot, ConnectsFrom}
+use Rattle.daide_sockets.specs.Pairing.{Arriving}
+use Rattle.daide_sockets.specs.Table.{key_of}
 
 -- the position of the bot with a number; the length of the list if it is not there
 abbrev pub position_of : ℕ → List Bot → ℕ
@@ -56,13 +59,18 @@ bot_from number address since = record {
 abbrev pub HasRoomForOne : Present → Type 0
 HasRoomForOne present = length present.bots.items < vec_capacity present.bots
 
--- The bot of a session that began may come, beside these hosts.
-abbrev pub IsAllowed : List AddressRange → ℕ → List Host → SessionNotice → Type 0
-IsAllowed allow most present (Began number bot) = may_come allow most present (host_of (socket_ip bot)) ≡ true
-IsAllowed allow most present _ = ⊥
-
--- The bot of a session that began is the last of those present, with its number and its address, and with this reading of
--- the clock as the time at which it came.
-abbrev pub IsPresentWith : Option Instant → Present → SessionNotice → Present → Type 0
-IsPresentWith reading old (Began number bot) new = new.bots.items ≡ old.bots.items ++ bot_from number bot reading ∷ []
-IsPresentWith reading old _ new = ⊥
+-- A bot was admitted at a place. An accept gave its connection, with this address. The connection is followed under the key
+-- of the bot of the place, and is that of the bot whose connect is pending there, with this number. By this address it may come
+-- beside those present before, by the ranges and the limit of `rules`. It is the last of those present, with this number, this
+-- address, and this reading of the clock as the time at which it came.
+pub record AdmitsBot {N C : Type 0} (transition : N → NetworkCall C → N → Type 0) (servers : List SocketAddr)
+    (rules : List AddressRange × ℕ) (reading : Option Instant) (place number : ℕ) (address : SocketAddr)
+    (old new : N × List (Option (Arriving C)) × Present) : Type 0 where
+  pub arrival : Arriving C
+  pub mid : N
+  pub brings : BringsBot transition address (key_of place Sides.Bot) arrival.bot.stream old.0 mid
+  pub connects : ConnectsFrom transition servers 0 arrival.tried mid new.0
+  pub arrivals : new.1 ≡ slice_set old.1 place (Some arrival)
+  pub number_is : arrival.number ≡ number
+  pub may : may_come rules.0 rules.1 (hosts_of old.2.bots.items) (host_of (socket_ip address)) ≡ true
+  pub present : new.2.bots.items ≡ old.2.bots.items ++ bot_from number address reading ∷ []

@@ -10,7 +10,7 @@ ghost use Rattle.std.specs.Prelude.{◌≡◌, ◌≢◌, ◌⊎◌, ℕ, ◌+�
 ghost use Rattle.daide_buffered_io.specs.Buffers.{Buffer};
 ghost use Rattle.daide_io.specs.Network.{AsksConnect, StopsListening};
 ghost use Rattle.daide_settings.specs.Ranges.{host_of, may_come};
-ghost use Rattle.daide_sockets.specs.Accepting.{is_accept_made, is_bot_due, may_connect, accept_pause, ReportsAccept, AcceptsOnce, AcceptsOneBot};
+ghost use Rattle.daide_sockets.specs.Accepting.{is_accept_made, is_bot_due, may_connect, accept_pause, ReportsAccept, AcceptsOnce, AcceptsOneBot, BringsBot};
 ghost use Rattle.daide_sockets.specs.Accepting.{AsksAtMostOnce, BringsNoBot, ConnectsFrom, TriesOn, GivesConnection, Pauses};
 ghost use Rattle.daide_sockets.specs.Beside.{listener_watched};
 ghost use Rattle.daide_sockets.specs.KeptRows.{ChangesRows};
@@ -290,6 +290,9 @@ impl Acceptor {
     ///
     /// `not_made`, `due`: if none is due, or if all numbers are given, no call is made, and no bot is returned.
     ///
+    /// `accepted`: the address of the bot is the one that the network returned with its connection, which is followed under
+    /// this key.
+    ///
     /// `kept`: a connection that was accepted is closed only if its bot may not come, if the list of those present has no room,
     /// or if the system refuses to follow it under this key.
     ///
@@ -315,6 +318,8 @@ impl Acceptor {
             poller.new.network ≡ poller.old.network }
         ensures due { IfOk result (λ _. (self.old.came < u32.MAX)
             × (is_bot_due poller.old.table self.old ≡ true)) }
+        ensures accepted { IfOk result (λ bot. BringsBot N.transition bot.2 key bot.1.stream.stream poller.old.network
+            poller.new.network) }
         ensures kept { IfErr result (λ _. self.old.came < u32.MAX →
             is_bot_due poller.old.table self.old ≡ true →
             HasRoomForOne present.old → BringsNoBot N.transition

@@ -1,7 +1,8 @@
 //! The environment of the event loop, `System`, over sockets.
 
+ghost use Rattle.std.specs.Net.Socket.{socket_ip};
 ghost use Rattle.std.specs.Option.{is_some};
-ghost use Rattle.std.specs.Prelude.{◌≡◌, ◌⊎◌, ℕ, List, Option, ◌<◌, ◌||◌, ◌&&◌, IfSome, IsSome, IsNone, None, true, false, [], length, not, slice_get};
+ghost use Rattle.std.specs.Prelude.{◌≡◌, ◌≢◌, ◌⊎◌, ℕ, List, Option, ◌<◌, ◌||◌, ◌&&◌, IfSome, IsSome, IsNone, None, true, false, [], length, not, slice_get};
 ghost use Rattle.std.specs.declared.time.Duration.{Duration};
 ghost use Rattle.daide_io.specs.Ports.{TurnBegins};
 ghost use Rattle.daide_io.specs.ReadyQueue.{is_among, woken_all};
@@ -9,7 +10,8 @@ ghost use Rattle.daide_io.specs.System.{Polls, Shows, Accepts, Connects, BeginsT
 ghost use Rattle.daide_status.specs.declared.snapshot.SessionRow.{SessionRow};
 ghost use Rattle.daide_buffered_io.specs.Streams.{Transfers};
 ghost use Rattle.daide_settings.specs.BotsInAll.{bots_in_all};
-ghost use Rattle.daide_sockets.specs.Accepting.{IsUnreached};
+ghost use Rattle.daide_settings.specs.Ranges.{host_of, may_come};
+ghost use Rattle.daide_sockets.specs.Accepting.{is_bot_due, BringsNoBot, IsUnreached};
 ghost use Rattle.daide_sockets.specs.Beside.{listener_watched, others_watched};
 ghost use Rattle.daide_sockets.specs.Capacity.{capacity_after};
 ghost use Rattle.daide_sockets.specs.ControlSlots.{Each, PlaceShows, places, watching_control};
@@ -17,8 +19,8 @@ ghost use Rattle.daide_sockets.specs.Finishing.{FinishesAll};
 ghost use Rattle.daide_sockets.specs.InTime.{watching_all};
 ghost use Rattle.daide_sockets.specs.Lines.{milliseconds_between};
 ghost use Rattle.daide_sockets.specs.Lingering.{LooksAround, in_pass, GoOnFor, no_closing};
-ghost use Rattle.daide_sockets.specs.Pairing.{Arriving, ClosesBothAt, TakesOut, pending_connects};
-ghost use Rattle.daide_sockets.specs.Present.{address_in, bot_with, since_in, without_bot};
+ghost use Rattle.daide_sockets.specs.Pairing.{Arriving, ClosesBothAt, TakesOut, is_vacant, pending_connects};
+ghost use Rattle.daide_sockets.specs.Present.{AdmitsBot, HasRoomForOne, address_in, bot_with, hosts_of, since_in, without_bot};
 ghost use Rattle.daide_sockets.specs.Rows.{AreRowsOf, KeepsClosingRows, closing_keys};
 ghost use Rattle.daide_sockets.specs.Scheduling.{RunEvolves, run_state};
 ghost use Rattle.daide_sockets.specs.Snapshot.{IsSessionRow};
@@ -82,7 +84,9 @@ fn idle_time_of(seconds: u32) -> Option<Duration>
 /// (`accept_next`: `made`), and no other call but connects for its bot. If it brings no bot, it failed, or its bot may not come,
 /// or the system refused to follow its connection (`kept`). From then on the next poll is for bots too (`awaited`), so it does
 /// not block while an accept is due. A bot is accepted only if it may come by the settings, beside the hosts of those that are
-/// there (`allowed`). A bot that comes is added to those, and the end of its session removes it (`retire` and `let_go`: `hosts`).
+/// there. What is judged is the address that the network returned with its connection (`accept`: `admitted`). A bot that comes
+/// is added to those, with this address. The end of its session removes it (`retire`: `present`), or that of its connect
+/// (`connected`: `leaves`), and no other call changes them. So `address_of` returns this address for the records and the status.
 ///
 /// The rows of a place are fixed by its number, and those of the listeners and of control connections by theirs. Only a closing
 /// socket takes a row, and the taken rows are always exactly those of the closing sockets (`HoldsRows`). A run begins with none
@@ -505,6 +509,16 @@ impl<'w, N: Network, E: Write + Drop> System<SocketPorts<'w, N::Connection>> for
         true
     }
 
+    /// Accepts the next bot, if there is one, and begins its connect.
+    ///
+    /// `admitted`: the address of a bot that came is the one that the network returned with its connection. By this address it
+    /// may come, by `allow` and `max_per_address` beside those that are there. It is the last of those from then on, with this
+    /// address, and the connection is that of the bot at its place.
+    ///
+    /// `absent`: if none came, those that are there are the same.
+    ///
+    /// `kept`: if a due accept brings no bot to a free place, and one more may be present, then it failed, or its bot may not come
+    /// by its address, or the system refused to follow its connection. No other bot is dropped.
     fn accept(&mut self, place: usize) -> bool
         ensures transition { RunEvolves N.transition N.Connection.to_give N.Connection.taken N.Connection.calls
             (λ (ports : PortsOf N.Connection). ports)
@@ -512,6 +526,17 @@ impl<'w, N: Network, E: Write + Drop> System<SocketPorts<'w, N::Connection>> for
             self.old.arrivals.items self.old.closings) (Accepts place result)
             (run_state (self.new.poller.network, self.new.poller.table) (self.new.idle_time, self.new.stall_time) self.new.acceptor
             self.new.arrivals.items self.new.closings) }
+        ensures admitted { result ≡ true → (address : SocketAddr) × AdmitsBot N.transition self.old.servers.now
+            (self.old.allow.now, self.old.max_per_address) self.old.poller.table.reading place self.new.acceptor.came address
+            (self.old.poller.network, self.old.arrivals.items, self.old.present)
+            (self.new.poller.network, self.new.arrivals.items, self.new.present) }
+        ensures absent { result ≡ false → self.new.present ≡ self.old.present }
+        ensures kept { result ≡ false → place < length self.old.poller.table.deadlines →
+            is_vacant self.old.arrivals.items place ≡ true →
+            self.old.acceptor.came < u32.MAX → is_bot_due self.old.poller.table self.old.acceptor ≡ true → HasRoomForOne self.old.present →
+            BringsNoBot N.transition (λ address. may_come self.old.allow.now self.old.max_per_address
+            (hosts_of self.old.present.bots.items) (host_of (socket_ip address))) self.old.poller.network
+            self.new.poller.network }
         ensures same { self.new ≡ record self.old {
           poller = self.new.poller;
           acceptor = self.new.acceptor;
@@ -540,6 +565,10 @@ impl<'w, N: Network, E: Write + Drop> System<SocketPorts<'w, N::Connection>> for
             (arrival : Arriving N.Connection) × (tried : N) × TakesOut self.old.arrivals.items place arrival self.new.arrivals.items
             × IsUnreached N.transition self.old.servers.now self.old.poller.table.reading arrival.gives_up arrival.tried
             self.old.poller.network tried }
+        ensures present { result ≢ Connect.Failed → self.new.present ≡ self.old.present }
+        ensures leaves { result ≡ Connect.Failed → (arrival : Arriving N.Connection)
+            × TakesOut self.old.arrivals.items place arrival self.new.arrivals.items
+            × (self.new.present.bots.items ≡ without_bot arrival.number self.old.present.bots.items) }
         ensures same { self.new ≡ record self.old {
           poller = self.new.poller;
           arrivals = self.new.arrivals;

@@ -2,14 +2,14 @@
 
 ghost use Rattle.std.specs.Duration.{as_nanos};
 ghost use Rattle.std.specs.Net.Socket.{socket_ip};
-ghost use Rattle.std.specs.Prelude.{◌≡◌, ℕ, ◌<◌, ◌≤◌, ◌&&◌, nat_lt, IfSome, IfNone, None, Some, true, false, length, slice_set};
+ghost use Rattle.std.specs.Prelude.{◌≡◌, ◌≢◌, ℕ, ◌<◌, ◌≤◌, ◌&&◌, nat_lt, IfSome, IfNone, None, Some, true, false, length, slice_set};
 ghost use Rattle.daide_io.specs.System.{Accepts, Connects};
 ghost use Rattle.daide_frame.specs.declared.side.Side.TheVariants.{Server};
 ghost use Rattle.daide_settings.specs.Ranges.{host_of, may_come};
 ghost use Rattle.daide_sockets.specs.Accepting.{is_bot_due, AcceptsThenConnects, BringsNoBot, IsUnreached, GivesConnection};
 ghost use Rattle.daide_sockets.specs.KeptRows.{ChangesRows, IsAcceptRow};
 ghost use Rattle.daide_sockets.specs.Pairing.{Arriving, ClosesAt, Comes, ComesWith, TakesOut, arrival_at, is_vacant};
-ghost use Rattle.daide_sockets.specs.Present.{HasRoomForOne, IsAllowed, IsPresentWith, hosts_of, without_bot};
+ghost use Rattle.daide_sockets.specs.Present.{AdmitsBot, HasRoomForOne, hosts_of, without_bot};
 ghost use Rattle.daide_sockets.specs.Rows.{KeepsClosingRows, closing_keys};
 ghost use Rattle.daide_sockets.specs.Scheduling.{RunEvolves, run_state};
 ghost use Rattle.daide_sockets.specs.Table.{forgotten, key_of};
@@ -111,6 +111,8 @@ impl<'w, N: Network, E: Write + Drop> Sockets<'w, N, E> {
 
     /// Returns the result of the connect for the bot at a place, if it has one. Otherwise the place rests, until something is
     /// reported of the connect, or until its deadline. After a request that sessions end now, the connect is given up.
+    ///
+    /// `present`, `leaves`: those present are the same, except for a bot whose connect is given up.
     #[inline(never)]
     pub(super) fn look_at(&mut self, place: usize) -> Connect<SocketPorts<'w, N::Connection>>
         ensures transition { RunEvolves N.transition N.Connection.to_give N.Connection.taken N.Connection.calls
@@ -124,6 +126,10 @@ impl<'w, N: Network, E: Write + Drop> Sockets<'w, N, E> {
             (arrival : Arriving N.Connection) × (tried : N) × TakesOut self.old.arrivals.items place arrival self.new.arrivals.items
             × IsUnreached N.transition self.old.servers.now self.old.poller.table.reading arrival.gives_up arrival.tried
             self.old.poller.network tried }
+        ensures present { result ≢ Connect.Failed → self.new.present ≡ self.old.present }
+        ensures leaves { result ≡ Connect.Failed → (arrival : Arriving N.Connection)
+            × TakesOut self.old.arrivals.items place arrival self.new.arrivals.items
+            × (self.new.present.bots.items ≡ without_bot arrival.number self.old.present.bots.items) }
         ensures same { self.new ≡ record self.old {
           poller = self.new.poller;
           arrivals = self.new.arrivals;
@@ -181,10 +187,9 @@ impl<'w, N: Network, E: Write + Drop> Sockets<'w, N, E> {
     ///
     /// `times`: its IM timer, and the time of its connect, run from the table's reading of the clock on.
     ///
-    /// `allowed`: a bot that is accepted may come by the ranges, and by the limit beside those that are there.
-    ///
-    /// `present`: it is the last of those, with the number and the host of its session's line, and with the table's
-    /// reading of the clock as its time.
+    /// `admitted`: the network returned the address of the line with the connection of the bot, which is now at this place. By
+    /// this address it may come, beside those that are there. It is the last of those from then on, with the number and the
+    /// address of the line.
     pub(super) fn accept_next(&mut self, place: usize) -> Option<SessionNotice>
         ensures comes { IfSome result (λ _. Comes
             (record { came = self.old.acceptor.came; arrivals = self.old.arrivals.items; closing = self.old.closings }) place
@@ -212,10 +217,11 @@ impl<'w, N: Network, E: Write + Drop> Sockets<'w, N, E> {
             GivesConnection N.transition self.old.poller.network) }
         ensures times { IfSome result (λ _. ComesWith self.old.arrivals.items place self.old.poller.table.reading
             (as_nanos self.old.im_time) (as_nanos self.old.connect_time) self.new.arrivals.items) }
-        ensures allowed { IfSome result (λ began. IsAllowed self.old.allow.now self.old.max_per_address
-            (hosts_of self.old.present.bots.items) began) }
-        ensures present { IfSome result (λ began. IsPresentWith self.old.poller.table.reading self.old.present began
-            self.new.present) }
+        ensures admitted { IfSome result (λ began. (address : SocketAddr)
+            × (began ≡ SessionNotice.Began self.new.acceptor.came address) × AdmitsBot N.transition self.old.servers.now
+            (self.old.allow.now, self.old.max_per_address) self.old.poller.table.reading place self.new.acceptor.came address
+            (self.old.poller.network, self.old.arrivals.items, self.old.present)
+            (self.new.poller.network, self.new.arrivals.items, self.new.present)) }
         ensures absent { IfNone result (self.new.present ≡ self.old.present) }
         ensures table { ChangesRows (IsAcceptRow self.old.poller.table place) self.old.poller.table self.new.poller.table }
         ensures same { self.new ≡ record self.old {
@@ -261,8 +267,8 @@ impl<'w, N: Network, E: Write + Drop> Sockets<'w, N, E> {
         })
     }
 
-    /// Accepts the next bot, if there is one, and logs that its session begins. It is apart from `accept`, which each round
-    /// calls, since a call clears its locals.
+    /// Accepts the next bot, if there is one, and logs that its session begins, with the address that was judged. It is apart
+    /// from `accept`, which each round calls, since a call clears its locals.
     #[inline(never)]
     pub(super) fn accept_due(&mut self, place: usize) -> bool
         ensures transition { RunEvolves N.transition N.Connection.to_give N.Connection.taken N.Connection.calls
@@ -271,6 +277,17 @@ impl<'w, N: Network, E: Write + Drop> Sockets<'w, N, E> {
             self.old.arrivals.items self.old.closings) (Accepts place result)
             (run_state (self.new.poller.network, self.new.poller.table) (self.new.idle_time, self.new.stall_time) self.new.acceptor
             self.new.arrivals.items self.new.closings) }
+        ensures admitted { result ≡ true → (address : SocketAddr) × AdmitsBot N.transition self.old.servers.now
+            (self.old.allow.now, self.old.max_per_address) self.old.poller.table.reading place self.new.acceptor.came address
+            (self.old.poller.network, self.old.arrivals.items, self.old.present)
+            (self.new.poller.network, self.new.arrivals.items, self.new.present) }
+        ensures absent { result ≡ false → self.new.present ≡ self.old.present }
+        ensures kept { result ≡ false → place < length self.old.poller.table.deadlines →
+            is_vacant self.old.arrivals.items place ≡ true →
+            self.old.acceptor.came < u32.MAX → is_bot_due self.old.poller.table self.old.acceptor ≡ true → HasRoomForOne self.old.present →
+            BringsNoBot N.transition (λ address. may_come self.old.allow.now self.old.max_per_address
+            (hosts_of self.old.present.bots.items) (host_of (socket_ip address))) self.old.poller.network
+            self.new.poller.network }
         ensures same { self.new ≡ record self.old {
           poller = self.new.poller;
           acceptor = self.new.acceptor;

@@ -1,5 +1,5 @@
 use Rattle.std.proofs.Common.{◌≡◌, ◌<◌, Bool, true, false, inr, refl, rules, arith}
-use Rattle.daide_sockets.proofs.AcceptLemmas.{accepts_one, brings_none, brings_declined, brings_refused}
+use Rattle.daide_sockets.proofs.AcceptLemmas.{accepts_one, brings_bot, brings_none, brings_declined, brings_refused}
 use Rattle.daide_sockets.proofs.AcceptLemmas.{listened, listened_followed}
 use Rattle.daide_sockets.proofs.KeptRowLemmas.{changes_none}
 use Rattle.daide_sockets.proofs.admission.Acceptor.next_bot.Goals as goal
@@ -18,6 +18,11 @@ pub returns-clause-once : goal.returns-clause-once
 returns-clause-once g c = λ due few.
     accepts_one g.N.Network.transition _ _ _ _ (c.in-Some-accept.ensures.once due)
     (inr (c.args.key, true, _, rw c.in-Some-new.is at c.new.ensures.followed))
+
+pub returns-clause-accepted : goal.returns-clause-accepted
+returns-clause-accepted g c =
+    brings_bot g.N.Network.transition c.in-Some-accept.stream c.in-Some-accept.address c.args.key _ _ _ _
+    (c.in-Some-accept.ensures.once c.in-Some-accept.ensures.due) (rw c.in-Some-new.is at c.new.ensures.followed)
 
 pub returns-in_default-accept-clause-kept : goal.returns-in_default-accept-clause-kept
 returns-in_default-accept-clause-kept g c = λ few due places.

@@ -34,6 +34,11 @@ returns-in_default-clause-transition g c =
       accept_beside _ _ c.args.place asked.table,
     ))
 
+pub returns-clause-admitted : goal.returns-clause-admitted
+returns-clause-admitted g c = λ _.
+    let admitted = c.in-Some.ensures.admitted in
+    rw c.tell_of_session.ensures (admitted.0, admitted.2)
+
 pub returns-clause-transition : goal.returns-clause-transition
 returns-clause-transition g c =
     let asked = c.accept_next.ensures in

@@ -19,6 +19,24 @@ returns-clause-comes g c = record {
 pub returns-clause-times : goal.returns-clause-times
 returns-clause-times g c = (c.new-arrival.result, search rules, search rules, search rules)
 
+pub returns-clause-admitted : goal.returns-clause-admitted
+returns-clause-admitted g c =
+    let has = c.has_place.ensures.rows c.if-not-has_place.false in
+    let key = key_fits c.args.place _ c.bot_key.result Bot c.bot_key.ensures has.1 in (
+      c.in-Ok.next.2,
+      search rules,
+      record {
+        arrival = c.new-arrival.result;
+        mid = c.next_bot-next.new.poller.network;
+        brings = search rules;
+        connects = search rules;
+        arrivals = search rules;
+        number_is = search rules;
+        may = search rules;
+        present = search rules;
+      },
+    )
+
 pub returns-in-Err-clause-left : goal.returns-in-Err-clause-left
 returns-in-Err-clause-left g c = λ lt free few due.
     c.in-Err.ensures.left (rw c.await_bots.ensures few) (rw c.tell_of_declined.ensures at due)

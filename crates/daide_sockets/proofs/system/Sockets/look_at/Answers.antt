@@ -51,6 +51,11 @@ returns-then-stops_now-clause-transition g c =
       failed_beside old old _ c.args.place _ _ _ lt refl (changes_none _ _ _ refl) rows held,
     ))
 
+pub returns-then-stops_now-clause-leaves : goal.returns-then-stops_now-clause-leaves
+returns-then-stops_now-clause-leaves g c = λ failed.
+    let present = rw (c.give_up.ensures.0, c.take_arrival.ensures.same) at c.let_go.ensures.present in
+    rw c.let_go.ensures.same (c.in-Some.arrival, c.in-Some.ensures.some, present)
+
 -- it is still pending: its place rests
 pub returns-then-advances-clause-transition : goal.returns-then-advances-clause-transition
 returns-then-advances-clause-transition g c =
@@ -165,6 +170,12 @@ returns-in-Err-clause-transition g c =
       (_, closes),
       failed_beside old mid _ c.args.place _ _ _ lt key table rows held,
     ))
+
+pub returns-in-Err-clause-leaves : goal.returns-in-Err-clause-leaves
+returns-in-Err-clause-leaves g c = λ failed.
+    let number = c.in-Err.ensures.unreached.0 ∙ c.advances.ensures.goes_on.number in
+    let present = rw (number, c.take_arrival.ensures.same) at c.let_go-in-Err.ensures.present in
+    rw c.let_go-in-Err.ensures.same (c.in-Some.arrival, c.in-Some.ensures.some, present)
 
 pub returns-in-Err-clause-unreached : goal.returns-in-Err-clause-unreached
 returns-in-Err-clause-unreached g c = λ failed off.
