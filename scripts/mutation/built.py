@@ -75,7 +75,7 @@ class Built(Checks):
     def path_of(self, crate, name, function):
         """The name of a function as `rattle check --only` takes it: a method by its type, any other by its module too.
         The name of a method of a trait goes on with what the trait is of, as in
-        `SocketsSystemSocketPortsConnection::watch`."""
+        `SocketsSystemSocketPortsConnection::arm`."""
         if not function.owner:
             return (module_of(name) + function.name).replace("/", "::")
         if function.trait:

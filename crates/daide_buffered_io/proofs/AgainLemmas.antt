@@ -35,23 +35,23 @@ module _ {A : Type 0} where
   )
 
 -- one more interrupted call
-pub again_told : (call : StreamCall) (old mid new : Option (List StreamCall)) (n : ℕ) (last : StreamCall) →
+pub again_appended : (call : StreamCall) (old mid new : Option (List StreamCall)) (n : ℕ) (last : StreamCall) →
     last ≡ call → AppendsTo old (replicate n call) mid → AppendsTo mid (last ∷ []) new → AppendsTo old (replicate (n + 1) call) new
-again_told call old mid new n last e before told =
+again_appended call old mid new n last e before appended =
     subst (λ (calls : List StreamCall). AppendsTo old calls new) (replicate_more n call)
     (tells_then old mid new (replicate n call) (call ∷ []) before
-    (subst (λ (c : StreamCall). AppendsTo mid (c ∷ []) new) e told))
+    (subst (λ (c : StreamCall). AppendsTo mid (c ∷ []) new) e appended))
 
 -- the last call
 pub last_tried : (call : IoResult → StreamCall) (old mid new : Option (List StreamCall)) (n : ℕ) (outcome : IoResult)
     (last : StreamCall) → last ≡ call outcome → n < 8 → (outcome ≡ Interrupted → suc n ≡ 8) →
     AppendsTo old (replicate n (call Interrupted)) mid → AppendsTo mid (last ∷ []) new → Tries call old outcome new
-last_tried call old mid new n outcome last e few spent before told = record {
+last_tried call old mid new n outcome last e few spent before appended = record {
   before = n;
   few = few;
   spent = spent;
-  told = tells_then old mid new (replicate n (call Interrupted)) (call outcome ∷ []) before
-      (subst (λ (c : StreamCall). AppendsTo mid (c ∷ []) new) e told);
+  appended = tells_then old mid new (replicate n (call Interrupted)) (call outcome ∷ []) before
+      (subst (λ (c : StreamCall). AppendsTo mid (c ∷ []) new) e appended);
 }
 
 -- ---- bytes

@@ -32,13 +32,13 @@ skipped bytes from to n h =
 pub gathered : (xs ys rest : List ℕ) (from to n : ℕ) → from ≤ to → to ≤ length xs → length ys ≡ n →
     take ((to + n) - from) (drop from (take to xs ++ (ys ++ rest))) ≡ take (to - from) (drop from xs) ++ ys
 gathered xs ys rest from to n below within size =
-    let held = drop from (take to xs) in
+    let storage = drop from (take to xs) in
     let front : length (take to xs) ≡ to = length-take-le to xs within in
     let least : from ≤ length (take to xs) = omega (arith, front, below) in
-    let all : length (held ++ ys) ≡ (to + n) - from =
-    length-append held ys ∙ grind (arith, length-drop from (take to xs), front, size, below) in
-    ap (take ((to + n) - from)) (drop-append-le from (take to xs) (ys ++ rest) least ∙ sym (append_assoc held ys rest))
-    ∙ take_at (held ++ ys) rest ((to + n) - from) all
+    let all : length (storage ++ ys) ≡ (to + n) - from =
+    length-append storage ys ∙ grind (arith, length-drop from (take to xs), front, size, below) in
+    ap (take ((to + n) - from)) (drop-append-le from (take to xs) (ys ++ rest) least ∙ sym (append_assoc storage ys rest))
+    ∙ take_at (storage ++ ys) rest ((to + n) - from) all
     ∙ ap (λ (l : List ℕ). l ++ ys) (sym (between_is xs from to))
 
 -- ---- one call
@@ -108,14 +108,14 @@ module _ {S : Type 0} (to_give got : S → Option (List ℕ)) where
       (record { read_buffer = read_buffer; gives = ap to_give stream })
 
   -- the write buffer was written once
-  pub drain_passes : (old new : Buffer S) (put : Put) (held rest : List ℕ) → old.write_buffer ≡ held → new.write_buffer ≡ rest →
-      IsTaken (got old.stream) held put (got new.stream) → rest ≡ drop (taken_len put) held →
+  pub drain_passes : (old new : Buffer S) (put : Put) (storage rest : List ℕ) → old.write_buffer ≡ storage → new.write_buffer ≡ rest →
+      IsTaken (got old.stream) storage put (got new.stream) → rest ≡ drop (taken_len put) storage →
       ReadsNothing to_give old new → Passes to_give got old [] [] new
-  drain_passes old new (Took n) held rest before after takes left unread =
-      write_passes old new (take n held) [] takes
-      (append-nil old.write_buffer ∙ before ∙ sym (take-append-drop n held)
-      ∙ ap (λ (l : List ℕ). take n held ++ l) (sym left ∙ sym after)) unread
-  drain_passes old new Failed held rest before after takes left unread =
+  drain_passes old new (Took n) storage rest before after takes left unread =
+      write_passes old new (take n storage) [] takes
+      (append-nil old.write_buffer ∙ before ∙ sym (take-append-drop n storage)
+      ∙ ap (λ (l : List ℕ). take n storage ++ l) (sym left ∙ sym after)) unread
+  drain_passes old new Failed storage rest before after takes left unread =
       write_passes old new [] [] (kept_appends (got old.stream) (got new.stream) takes)
       (append-nil old.write_buffer ∙ before ∙ sym left ∙ sym after) unread
     where
@@ -153,9 +153,9 @@ module _ {S : Type 0} (to_give got : S → Option (List ℕ)) where
       (record { write_buffer = write_buffer; takes = ap got stream ∙ takes })
 
   -- bytes of the read buffer were returned
-  pub out_passes : (old new : Buffer S) (held out : List ℕ) → new.stream ≡ old.stream → old.read_buffer ≡ held →
-      held ≡ out ++ new.read_buffer → new.write_buffer ≡ old.write_buffer → Passes to_give got old out [] new
-  out_passes old new held out stream read_buffer bytes write_buffer =
+  pub out_passes : (old new : Buffer S) (storage out : List ℕ) → new.stream ≡ old.stream → old.read_buffer ≡ storage →
+      storage ≡ out ++ new.read_buffer → new.write_buffer ≡ old.write_buffer → Passes to_give got old out [] new
+  out_passes old new storage out stream read_buffer bytes write_buffer =
       read_passes old new [] out (same_gives old.stream new.stream (ap to_give stream))
       (append-nil old.read_buffer ∙ read_buffer ∙ bytes) (record { write_buffer = write_buffer; takes = ap got stream })
 

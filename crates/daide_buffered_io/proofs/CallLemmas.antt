@@ -31,13 +31,13 @@ pub no_room : (free_space : ℕ) → true ≡ (free_space == 0) → free_space �
 no_room free_space e = grind (arith, nat_tests, e)
 
 -- the caller's buffer is shorter than the pool's
-pub short : {A : Type 0} (n most : ℕ) (free_space : Option A) (held : A) → free_space ≡ Some held →
+pub short : {A : Type 0} (n most : ℕ) (free_space : Option A) (storage : A) → free_space ≡ Some storage →
     (n < most) ⊎ (free_space ≡ None) → n ≤ most
-short n most free_space held some (inl less) = omega (arith, less)
-short n most free_space held some (inr none) = absurd (let e = sym none ∙ some in cc)
+short n most free_space storage some (inl less) = omega (arith, less)
+short n most free_space storage some (inr none) = absurd (let e = sym none ∙ some in cc)
 
-pub is_some : (held read_buffer : List ℕ) → held ≡ read_buffer → 0 < length held → read_buffer ≡ [] → ⊥
-is_some held read_buffer same some none = omega (arith, some, ap length (same ∙ none))
+pub is_some : (storage read_buffer : List ℕ) → storage ≡ read_buffer → 0 < length storage → read_buffer ≡ [] → ⊥
+is_some storage read_buffer same some none = omega (arith, some, ap length (same ∙ none))
 
 -- bytes were read into the emptied buffer
 pub filled : (items buffer : List ℕ) (count : ℕ) → items ≡ buffer → take (count - 0) items ≡ take count buffer
@@ -88,9 +88,9 @@ module _ {S : Type 0} (calls : S → Option (List StreamCall)) where
   pub made_pull : (free_space : ℕ) (known still : Readiness) (old new : S) (pull : Pull) (outcome : IoResult) →
       known.may_read ≡ true → 0 < free_space → Tries (Read free_space) (calls old) outcome (calls new) → pull ≡ pull_of outcome →
       still ≡ after_read known free_space outcome → IsPull calls free_space known old pull still new
-  made_pull free_space known still old new pull outcome ready some tries told noted = record {
+  made_pull free_space known still old new pull outcome ready some tries appended noted = record {
     spared = λ e. absurd (neither e);
-    made = λ r s. (outcome, tries, told, noted);
+    made = λ r s. (outcome, tries, appended, noted);
   }
     where
       neither : (known.may_read ≡ false) ⊎ (free_space ≡ 0) → ⊥
@@ -144,12 +144,12 @@ module _ {S : Type 0} (calls : S → Option (List StreamCall)) where
       front ≡ bytes → known.may_write ≡ true → Tries (Written front) (calls old) outcome (calls new) →
       put ≡ put_of outcome → still ≡ after_write known (length front) outcome →
       IsPut calls bytes known old put still new
-  made_put bytes front known still old new put outcome same ready tries told noted = record {
+  made_put bytes front known still old new put outcome same ready tries appended noted = record {
     spared = λ e. absurd (let r = ready in let s = e in cc);
     made = λ r. (
       outcome,
       subst (λ (l : List ℕ). Tries (Written l) (calls old) outcome (calls new)) same tries,
-      told,
+      appended,
       noted ∙ ap (λ (l : List ℕ). after_write known (length l) outcome) same,
     );
   }
@@ -168,15 +168,15 @@ module _ {S : Type 0} (calls : S → Option (List StreamCall)) where
     where
       of_outcome : (outcome : IoResult) → Tries (Written bytes) (calls old) outcome (calls new) → put ≡ put_of outcome →
           still ≡ after_write known (length bytes) outcome → IsStopped calls still new
-      of_outcome (Moved count) tries told noted =
-          let same : Took n ≡ Took count = sym took ∙ told in
+      of_outcome (Moved count) tries appended noted =
+          let same : Took n ≡ Took count = sym took ∙ appended in
           let fewer : count < length bytes = subst (λ (m : ℕ). m < length bytes) (took_same n count same) less in
           let test : nat_lt count (length bytes) ≡ true = grind (arith, nat_tests, fewer) in
           inl (ap (λ (k : Readiness). k.may_write) (noted
           ∙ ap (λ (b : Bool). if b then without_writes known else known) test))
-      of_outcome Interrupted tries told noted = inr (calls old, bytes, tries)
-      of_outcome NotNow tries told noted = inl (ap (λ (k : Readiness). k.may_write) noted)
-      of_outcome Failed tries told noted = absurd (let e = sym took ∙ told in cc)
+      of_outcome Interrupted tries appended noted = inr (calls old, bytes, tries)
+      of_outcome NotNow tries appended noted = inl (ap (λ (k : Readiness). k.may_write) noted)
+      of_outcome Failed tries appended noted = absurd (let e = sym took ∙ appended in cc)
 
       by : (may : Bool) → known.may_write ≡ may → IsStopped calls still new
       by false e = inl (ap (λ (k : Readiness). k.may_write) (made.spared e).2 ∙ e)

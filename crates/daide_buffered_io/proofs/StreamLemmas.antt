@@ -13,7 +13,7 @@ use Rattle.daide_io.specs.declared.ports.Put.{Put}
 use Rattle.daide_io.specs.declared.ports.Put.TheVariants.{Took, Failed}
 use Rattle.daide_buffered_io.specs.Buffers.{Buffer, Passes, ReadsNothing}
 use Rattle.daide_buffered_io.specs.Taking.{bytes_taken}
-use Rattle.daide_buffered_io.specs.Streams.{stream_of, gave, is_of, Transfers}
+use Rattle.daide_buffered_io.specs.Streams.{stream_of, pulled_bytes, is_of, Transfers}
 use Rattle.daide_buffered_io.proofs.BufferLemmas.{same_passes}
 
 true_not_false : true ≡ false → ⊥
@@ -22,14 +22,14 @@ true_not_false e = absurd (cc)
 -- ---- one call
 
 own_given : (side : Side) (buffer : ℕ) (pull : Pull) (bytes : List ℕ) →
-    gave side (Pulled side buffer pull (take (pulled_len pull) bytes)) ≡ take (pulled_len pull) bytes
+    pulled_bytes side (Pulled side buffer pull (take (pulled_len pull) bytes)) ≡ take (pulled_len pull) bytes
 own_given Bot buffer (Got n) bytes = refl
 own_given Server buffer (Got n) bytes = refl
 own_given side buffer Idle bytes = refl
 own_given side buffer Ended bytes = refl
 
 none_given : (side : Side) (buffer : ℕ) (pull : Pull) (bytes : List ℕ) →
-    gave (other side) (Pulled side buffer pull bytes) ≡ []
+    pulled_bytes (other side) (Pulled side buffer pull bytes) ≡ []
 none_given Bot buffer (Got n) bytes = refl
 none_given Server buffer (Got n) bytes = refl
 none_given side buffer Idle bytes = refl
@@ -74,10 +74,10 @@ module _ {S : Type 0} (to_give got : S → Option (List ℕ)) where
         Transfers to_give got old (Pulled side buffer pull (take (pulled_len pull) bytes)) new
     pulled_moves side buffer pull bytes own rest unread =
         let call = Pulled side buffer pull (take (pulled_len pull) bytes) in record {
-          passes = of_both (λ one. Passes to_give got (stream_of old one) (gave one call) [] (stream_of new one)) side
-              (passes_as (stream_of old side) (stream_of new side) (take (pulled_len pull) bytes) [] (gave side call) []
+          passes = of_both (λ one. Passes to_give got (stream_of old one) (pulled_bytes one call) [] (stream_of new one)) side
+              (passes_as (stream_of old side) (stream_of new side) (take (pulled_len pull) bytes) [] (pulled_bytes side call) []
               (own_given side buffer pull bytes) refl own)
-              (passes_as (stream_of old (other side)) (stream_of new (other side)) [] [] (gave (other side) call) []
+              (passes_as (stream_of old (other side)) (stream_of new (other side)) [] [] (pulled_bytes (other side) call) []
               (none_given side buffer pull (take (pulled_len pull) bytes)) refl rest);
           unread = of_both
               (λ one. is_of one call ≡ false → ReadsNothing to_give (stream_of old one) (stream_of new one)) side
@@ -104,12 +104,12 @@ module _ {S : Type 0} (to_give got : S → Option (List ℕ)) where
         }
 
     -- a call that returns and accepts no byte moves none
-    pub still_moves : (answer : PortCall) → ((side : Side) → gave side answer ≡ []) →
+    pub still_moves : (answer : PortCall) → ((side : Side) → pulled_bytes side answer ≡ []) →
         ((side : Side) → took side answer ≡ []) → new ≡ old → Transfers to_give got old answer new
-    still_moves answer none_gave none_took e =
+    still_moves answer none_pulled none_took e =
         subst (λ (streams : Buffer S × Buffer S). Transfers to_give got old answer streams) (sym e) (record {
-          passes = λ side. passes_as (stream_of old side) (stream_of old side) [] [] (gave side answer) (took side answer)
-              (none_gave side) (none_took side)
+          passes = λ side. passes_as (stream_of old side) (stream_of old side) [] [] (pulled_bytes side answer) (took side answer)
+              (none_pulled side) (none_took side)
               (same_passes to_give got (stream_of old side));
           unread = λ side f. record { read_buffer = refl; gives = refl };
           unchanged = λ f. refl;

@@ -85,7 +85,7 @@ all_room = record { bytes = []; free_space = buffer_size }
 -- the bytes of a buffer that may be absent
 abbrev pub buffered_bytes : Option Roomful → List ℕ
 buffered_bytes None = []
-buffered_bytes (Some held) = held.bytes
+buffered_bytes (Some storage) = storage.bytes
 
 -- A put of these bytes only writes: nothing is read, and what is known of reads is unchanged. Its count is within the bytes,
 -- and the write buffer within its capacity. A failure is recorded, and a stream that is not writable stays so.

@@ -22,7 +22,7 @@ pub record Tries (call : IoResult → StreamCall) (old : Option (List StreamCall
   pub before : ℕ
   pub few : before < most_tries
   pub spent : outcome ≡ Interrupted → suc before ≡ most_tries
-  pub told : AppendsTo old (replicate before (call Interrupted) ++ call outcome ∷ []) new
+  pub appended : AppendsTo old (replicate before (call Interrupted) ++ call outcome ∷ []) new
 
 -- ---- readiness after a call
 

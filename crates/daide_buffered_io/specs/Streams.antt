@@ -15,18 +15,18 @@ stream_of streams Bot = streams.0
 stream_of streams Server = streams.1
 
 -- the bytes that a call returned from this side's stream
-abbrev pub gave : Side → PortCall → List ℕ
-gave side TurnBegins = []
-gave side (Clock event) = []
-gave side (Pulled from buffer (Got n) bytes) = if same_side from side then bytes else []
-gave side (Pulled from buffer Idle bytes) = []
-gave side (Pulled from buffer Ended bytes) = []
-gave side (Offered to bytes put) = []
+abbrev pub pulled_bytes : Side → PortCall → List ℕ
+pulled_bytes side TurnBegins = []
+pulled_bytes side (Clock event) = []
+pulled_bytes side (Pulled from buffer (Got n) bytes) = if same_side from side then bytes else []
+pulled_bytes side (Pulled from buffer Idle bytes) = []
+pulled_bytes side (Pulled from buffer Ended bytes) = []
+pulled_bytes side (Offered to bytes put) = []
 
 -- the bytes that a trace of calls returned from it, in order
 abbrev pub given : Side → List PortCall → List ℕ
 given side [] = []
-given side (answer ∷ answers) = gave side answer ++ given side answers
+given side (call ∷ trace) = pulled_bytes side call ++ given side trace
 
 -- whether a call concerns this side's stream
 abbrev pub is_of : Side → PortCall → Bool
@@ -45,10 +45,10 @@ is_question (Offered to bytes put) = false
 -- The effect of one call on the buffered streams of bot and server. Each returned the bytes that the call returned from
 -- it, and accepted those that the call put to it. From a stream that the call does not concern nothing is read, and
 -- only its write buffer is written. A question changes neither.
-pub record Transfers {S : Type 0} (to_give got : S → Option (List ℕ)) (old : Buffer S × Buffer S) (answer : PortCall)
+pub record Transfers {S : Type 0} (to_give got : S → Option (List ℕ)) (old : Buffer S × Buffer S) (call : PortCall)
     (new : Buffer S × Buffer S) : Type 0 where
   pub passes : (side : Side) →
-      Passes to_give got (stream_of old side) (gave side answer) (took side answer) (stream_of new side)
-  pub unread : (side : Side) → is_of side answer ≡ false →
+      Passes to_give got (stream_of old side) (pulled_bytes side call) (took side call) (stream_of new side)
+  pub unread : (side : Side) → is_of side call ≡ false →
       ReadsNothing to_give (stream_of old side) (stream_of new side)
-  pub unchanged : is_question answer ≡ true → new ≡ old
+  pub unchanged : is_question call ≡ true → new ≡ old

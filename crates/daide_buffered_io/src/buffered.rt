@@ -44,20 +44,20 @@ impl<S: Drop> Model for Buffered<S> {
       has_failed = b.has_failed;
     } };
 
-    ghost invariant = { λ b. IfSome b.read_buffer (λ held. 0 < length held.bytes)
-        × IfSome b.write_buffer (λ held. 0 < length held.bytes) };
+    ghost invariant = { λ b. IfSome b.read_buffer (λ storage. 0 < length storage.bytes)
+        × IfSome b.write_buffer (λ storage. 0 < length storage.bytes) };
 }
 
 /// Returns the buffer if it has bytes, or else gives it back to the pool.
-fn kept(held: IoBuffer, pool: &Pool) -> Option<IoBuffer>
-    ensures held { buffered_bytes result ≡ held.bytes }
+fn kept(storage: IoBuffer, pool: &Pool) -> Option<IoBuffer>
+    ensures bytes { buffered_bytes result ≡ storage.bytes }
     ensures some { IfSome result (λ kept. 0 < length kept.bytes) }
 {
-    if held.as_slice().is_empty() {
-        pool.give_back(held);
+    if storage.as_slice().is_empty() {
+        pool.give_back(storage);
         return None;
     }
-    Some(held)
+    Some(storage)
 }
 
 impl<S: Drop> Buffered<S> {
@@ -92,7 +92,7 @@ impl<S: Drop> Buffered<S> {
     }
 
     /// Returns whether the read buffer has bytes.
-    pub fn is_ahead(&self) -> bool
+    pub fn has_read_ahead(&self) -> bool
         ensures some { result ≡ true → 0 < length self.now.read_buffer }
         ensures none { result ≡ false → self.now.read_buffer ≡ [] }
     {
@@ -100,7 +100,7 @@ impl<S: Drop> Buffered<S> {
     }
 
     /// Returns whether the write buffer has bytes that may still be written: false after a failed write.
-    pub fn is_behind(&self) -> bool
+    pub fn has_queued(&self) -> bool
         ensures may { result ≡ true → self.now.has_failed ≡ false }
         ensures some { result ≡ true → 0 < length self.now.write_buffer }
         ensures none { result ≡ false → self.now.has_failed ≡ false → self.now.write_buffer ≡ [] }
@@ -116,11 +116,11 @@ impl<S: Drop> Buffered<S> {
     }
 
     /// Returns the number of bytes in the write buffer.
-    pub fn behind_len(&self) -> usize
+    pub fn queued_len(&self) -> usize
         ensures { result ≡ length self.now.write_buffer }
     {
         match &self.write_buffer {
-            Some(held) => held.as_slice().len(),
+            Some(storage) => storage.as_slice().len(),
             None => 0,
         }
     }
@@ -136,35 +136,35 @@ impl<S: Drop> Buffered<S> {
 
 impl<S: Duplex + Drop> Buffered<S> {
     /// Moves the first bytes of a buffer to the caller's, keeps the rest as the read buffer, and returns their number.
-    fn hand_out(&mut self, held: IoBuffer, pool: &Pool, buffer: &mut [u8]) -> usize
+    fn hand_out(&mut self, storage: IoBuffer, pool: &Pool, buffer: &mut [u8]) -> usize
         ensures within { result ≤ length buffer.old }
         ensures len { length buffer.new ≡ length buffer.old }
-        ensures count { result ≡ min (length held.bytes) (length buffer.old) }
-        ensures bytes { held.bytes ≡ take result buffer.new ++ self.new.read_buffer }
+        ensures count { result ≡ min (length storage.bytes) (length buffer.old) }
+        ensures bytes { storage.bytes ≡ take result buffer.new ++ self.new.read_buffer }
         ensures few { length self.new.read_buffer ≤ MOST_HELD }
         ensures rest { (self.new.stream ≡ self.old.stream) × (self.new.write_buffer ≡ self.old.write_buffer) }
         ensures failed { self.new.has_failed ≡ self.old.has_failed }
     {
-        let mut held = held;
-        let count = held.give(buffer);
-        self.read_buffer = kept(held, pool);
+        let mut storage = storage;
+        let count = storage.give(buffer);
+        self.read_buffer = kept(storage, pool);
         count
     }
 
     /// Takes the read buffer out, if it has bytes.
     fn take_ahead(&mut self, pool: &Pool) -> Option<IoBuffer>
-        ensures held { buffered_bytes result ≡ self.old.read_buffer }
-        ensures some { IfSome result (λ held. 0 < length held.bytes) }
+        ensures bytes { buffered_bytes result ≡ self.old.read_buffer }
+        ensures some { IfSome result (λ storage. 0 < length storage.bytes) }
         ensures rest { self.new ≡ record self.old { read_buffer = [] } }
     {
-        let Some(held) = self.read_buffer.take() else {
+        let Some(storage) = self.read_buffer.take() else {
             return None;
         };
-        if held.as_slice().is_empty() {
-            pool.give_back(held);
+        if storage.as_slice().is_empty() {
+            pool.give_back(storage);
             return None;
         }
-        Some(held)
+        Some(storage)
     }
 
     /// Reads into a buffer of the pool and returns its first bytes. Reads into the caller's buffer directly if that has
@@ -186,18 +186,18 @@ impl<S: Duplex + Drop> Buffered<S> {
         } else {
             None
         };
-        let Some(held) = free_space else {
+        let Some(storage) = free_space else {
             return pull_from(&mut self.stream, readiness, buffer);
         };
-        let mut held = held;
-        match held.refill(&mut self.stream, readiness) {
-            Pull::Got(_count) => Pull::Got(self.hand_out(held, pool, buffer)),
+        let mut storage = storage;
+        match storage.refill(&mut self.stream, readiness) {
+            Pull::Got(_count) => Pull::Got(self.hand_out(storage, pool, buffer)),
             Pull::Idle => {
-                pool.give_back(held);
+                pool.give_back(storage);
                 Pull::Idle
             }
             Pull::Ended => {
-                pool.give_back(held);
+                pool.give_back(storage);
                 Pull::Ended
             }
         }
@@ -237,8 +237,8 @@ impl<S: Duplex + Drop> Buffered<S> {
         ensures all_out { result ≡ Pull.Ended → self.old.read_buffer ≡ [] }
         ensures writes { readiness.new.may_write ≡ readiness.old.may_write }
     {
-        if let Some(held) = self.take_ahead(pool) {
-            return Pull::Got(self.hand_out(held, pool, buffer));
+        if let Some(storage) = self.take_ahead(pool) {
+            return Pull::Got(self.hand_out(storage, pool, buffer));
         }
         if buffer.is_empty() || !readiness.may_read {
             return Pull::Idle;
@@ -270,26 +270,26 @@ impl<S: Duplex + Drop> Buffered<S> {
         if self.has_failed {
             return;
         }
-        let Some(held) = self.write_buffer.take() else {
+        let Some(storage) = self.write_buffer.take() else {
             return;
         };
-        let mut held = held;
-        self.has_failed = held.drain(&mut self.stream, readiness) == Put::Failed;
-        self.write_buffer = kept(held, pool);
+        let mut storage = storage;
+        self.has_failed = storage.drain(&mut self.stream, readiness) == Put::Failed;
+        self.write_buffer = kept(storage, pool);
     }
 
     /// Appends a prefix of the bytes to a buffer, as long as its free space allows, and makes it the write buffer.
-    fn hold(&mut self, held: IoBuffer, pool: &Pool, bytes: &[u8]) -> Put
+    fn hold(&mut self, storage: IoBuffer, pool: &Pool, bytes: &[u8]) -> Put
         ensures within { IsPutWithin result (length bytes.now) }
-        ensures all { result ≡ Put.Took (min held.free_space (length bytes.now)) }
-        ensures write_buffer { self.new.write_buffer ≡ held.bytes ++ bytes_taken result bytes.now }
+        ensures all { result ≡ Put.Took (min storage.free_space (length bytes.now)) }
+        ensures write_buffer { self.new.write_buffer ≡ storage.bytes ++ bytes_taken result bytes.now }
         ensures rest { (self.new.stream ≡ self.old.stream) × (self.new.read_buffer ≡ self.old.read_buffer) }
         ensures failed { self.new.has_failed ≡ self.old.has_failed }
         ensures few { length self.new.write_buffer ≤ MOST_HELD }
     {
-        let mut held = held;
-        let count = held.coalesce(bytes);
-        self.write_buffer = kept(held, pool);
+        let mut storage = storage;
+        let count = storage.coalesce(bytes);
+        self.write_buffer = kept(storage, pool);
         Put::Took(count)
     }
 
@@ -303,8 +303,8 @@ impl<S: Duplex + Drop> Buffered<S> {
         ensures writes { OnlyPuts S.calls readiness.old self.old.stream readiness.new self.new.stream }
     {
         if bytes.len() < MOST_HELD {
-            if let Some(held) = pool.take() {
-                return self.hold(held, pool, bytes);
+            if let Some(storage) = pool.take() {
+                return self.hold(storage, pool, bytes);
             }
         }
         let put = put_to(&mut self.stream, readiness, bytes);
@@ -316,25 +316,25 @@ impl<S: Duplex + Drop> Buffered<S> {
     /// allows. Returns `Failed` if the write failed.
     fn take_written(
         &mut self,
-        held: IoBuffer,
+        storage: IoBuffer,
         pool: &Pool,
         readiness: &mut Readiness,
         bytes: &[u8],
     ) -> Put
         requires { self.old.write_buffer ≡ [] }
         ensures write_only { IsWriteOnly S.to_give readiness.old self.old bytes.now result readiness.new self.new }
-        ensures passes { Passes S.to_give S.taken (record self.old { write_buffer = held.bytes }) []
+        ensures passes { Passes S.to_give S.taken (record self.old { write_buffer = storage.bytes }) []
             (bytes_taken result bytes.now) self.new }
         ensures waits { result ≡ Put.Took 0 → 0 < length bytes.now → IsStopped S.calls readiness.new self.new.stream }
         ensures writes { OnlyPuts S.calls readiness.old self.old.stream readiness.new self.new.stream }
     {
-        let mut held = held;
-        if held.drain(&mut self.stream, readiness) == Put::Failed {
+        let mut storage = storage;
+        if storage.drain(&mut self.stream, readiness) == Put::Failed {
             self.has_failed = true;
-            self.write_buffer = kept(held, pool);
+            self.write_buffer = kept(storage, pool);
             return Put::Failed;
         }
-        match kept(held, pool) {
+        match kept(storage, pool) {
             Some(left) => self.hold(left, pool, bytes),
             None => self.take_first(pool, readiness, bytes),
         }
@@ -355,13 +355,13 @@ impl<S: Duplex + Drop> Buffered<S> {
             IsStopped S.calls readiness.new self.new.stream }
         ensures writes { OnlyPuts S.calls readiness.old self.old.stream readiness.new self.new.stream }
     {
-        let Some(held) = self.write_buffer.take() else {
+        let Some(storage) = self.write_buffer.take() else {
             return self.take_first(pool, readiness, bytes);
         };
-        if held.free_space() < count {
-            return self.take_written(held, pool, readiness, bytes);
+        if storage.free_space() < count {
+            return self.take_written(storage, pool, readiness, bytes);
         }
-        self.hold(held, pool, bytes)
+        self.hold(storage, pool, bytes)
     }
 
     /// Puts bytes. Fewer than `MOST_HELD`, 16,384, are kept together: if the free space is too small for all of them,
@@ -419,7 +419,7 @@ impl<S: Duplex + Drop> Buffered<S> {
         ensures unread { ReadsNothing S.to_give self.old self.new }
         ensures unwritten { WritesNothing S.taken self.old self.new }
         ensures failed { self.new.has_failed ≡ self.old.has_failed }
-        ensures told { AppendsTo (S.calls self.old.stream) (WritingEnded ∷ []) (S.calls self.new.stream) }
+        ensures appended { AppendsTo (S.calls self.old.stream) (WritingEnded ∷ []) (S.calls self.new.stream) }
     {
         self.stream.end_writing();
     }

@@ -41,7 +41,7 @@ impl Model for IoBuffer {
 impl IoBuffer {
     /// Allocates an empty buffer. Fails if the allocation is refused.
     pub fn new(alloc: Global) -> Result<IoBuffer, AllocError>
-        ensures { IfOk result (λ held. held ≡ all_room) }
+        ensures { IfOk result (λ storage. storage ≡ all_room) }
     {
         let mut bytes = Vec::with_capacity(alloc, MOST_HELD)?;
         bytes.resize(MOST_HELD, 0)?;
@@ -91,9 +91,9 @@ impl IoBuffer {
         ensures bytes { self.old.bytes ≡ take result buffer.new ++ self.new.bytes }
         ensures few { length self.new.bytes ≤ MOST_HELD }
     {
-        let held = self.as_slice();
-        let count = held.len().min(buffer.len());
-        buffer[..count].copy_from_slice(&held[..count]);
+        let storage = self.as_slice();
+        let count = storage.len().min(buffer.len());
+        buffer[..count].copy_from_slice(&storage[..count]);
         self.skip(count);
         count
     }
@@ -102,7 +102,7 @@ impl IoBuffer {
     pub fn coalesce(&mut self, bytes: &[u8]) -> usize
         ensures count { result ≡ min self.old.free_space (length bytes.now) }
         ensures within { result ≤ length bytes.now }
-        ensures held { self.new.bytes ≡ self.old.bytes ++ take result bytes.now }
+        ensures bytes { self.new.bytes ≡ self.old.bytes ++ take result bytes.now }
         ensures few { length self.new.bytes ≤ MOST_HELD }
     {
         let start = self.to;

@@ -43,10 +43,10 @@ impl Free {
     }
 
     /// Adds a buffer, or deallocates it if the list is full.
-    fn keep(&mut self, held: IoBuffer) {
+    fn keep(&mut self, storage: IoBuffer) {
         if self.rooms.len() < MOST_FREE {
             // If the list can't grow, the buffer is deallocated.
-            let _ = self.rooms.push(held);
+            let _ = self.rooms.push(storage);
         }
     }
 }
@@ -78,22 +78,22 @@ impl Pool {
 
     /// Returns an empty buffer: a free one, or else a new one. Returns `None` if the allocation is refused.
     pub fn take(&self) -> Option<IoBuffer>
-        ensures { IfSome result (λ held. held ≡ all_room) }
+        ensures { IfSome result (λ storage. storage ≡ all_room) }
     {
         match self.take_back() {
-            Some(held) => {
-                let mut held = held;
-                held.clear();
-                Some(held)
+            Some(storage) => {
+                let mut storage = storage;
+                storage.clear();
+                Some(storage)
             }
             None => IoBuffer::new(self.alloc).ok(),
         }
     }
 
     /// Gives a buffer back.
-    pub fn give_back(&self, held: IoBuffer) {
+    pub fn give_back(&self, storage: IoBuffer) {
         if let Ok(mut free) = self.free.try_borrow_mut() {
-            free.keep(held);
+            free.keep(storage);
         }
     }
 }

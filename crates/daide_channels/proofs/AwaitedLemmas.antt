@@ -104,7 +104,7 @@ waits_len {f} {t} {side} {one} h =
 pub record IsSeenFree (f : Fields) (t : Channels) (side one : Side) : Type 0 where
   pub seen : IsSeen f t side one
   pub free : (at f.sides one).verdict ≡ None
-  pub pending : pending t side ≡ (at f.sides one).held
+  pub pending : pending t side ≡ (at f.sides one).frame_bytes
 
 pub seen_free : {f : Fields} {t : Channels} {side one : Side} → IsSound f → channels_of f ≡ t → side ≡ one →
     is_awaited (at t.queued) side ≡ false → IsSeenFree f t side one
@@ -115,15 +115,15 @@ seen_free {f} {t} {side} {one} i is s none =
       seen = h;
       free = free;
       pending = ap (λ (a : ReceiveState). a.coming.pending) h.arrival
-          ∙ ap (λ (o : Option Verdict). pending_by o (at f.sides one).held) free;
+          ∙ ap (λ (o : Option Verdict). pending_by o (at f.sides one).frame_bytes) free;
     }
 
 -- if no answer is queued, the held bytes are those since the last whole frame
 pub tied : {f : Fields} {t : Channels} {side one : Side} → IsSound f → channels_of f ≡ t → side ≡ one →
-    is_awaited (at t.queued) side ≡ false → (side_holding t side).held ≡ pending t side
+    is_awaited (at t.queued) side ≡ false → (side_holding t side).frame_bytes ≡ pending t side
 tied {f} {t} {side} {one} i is s none =
     let h : IsSeenFree f t side one = seen_free i is s none in
-    ap (λ (a : ReceiveState). a.holding.held) h.seen.arrival ∙ sym h.pending
+    ap (λ (a : ReceiveState). a.holding.frame_bytes) h.seen.arrival ∙ sym h.pending
 
 -- a side without an answer leaves a free entry in each queue
 pub reply_room : {f : Fields} {t : Channels} {side one : Side} → IsSeenFree f t side one → (to : Side) →

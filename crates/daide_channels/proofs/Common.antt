@@ -27,7 +27,7 @@ unfoldable pub use Rattle.daide_words.specs.Table.OverWords.{spoken}
 pub use Rattle.daide_words.specs.contracts.extended.ExtendedPredict.TheImpl.{ghosts}
 pub use Rattle.daide_protocol.specs.HloLevel.{lvl_scan_of}
 pub use Rattle.daide_protocol.specs.Machine.{Sent, destination, IsCorrectVerdict, question_of, is_dm, side2_of}
-pub use Rattle.daide_protocol.specs.Weight.{tokens_held}
+pub use Rattle.daide_protocol.specs.Weight.{frame_tokens}
 pub use Rattle.daide_protocol.specs.Wires.{is_awaited, is_answer, parts_after, first_len, sent_bytes, is_dm_head}
 pub use Rattle.daide_channels.specs.Receiver.{Receiver, StartsFrame, whole_answer, answer_parts, front_after, front_in}
 pub use Rattle.daide_channels.specs.Receiver.{Answers, bytes_by, parts_by, ReaderLimits, ReadsMessageBytes, receiver_of}

@@ -97,7 +97,7 @@ record IsSideAfter (old new : Receiver) (its : Bool) : Type 0 where
   total : new.total ≡ old.total
   looked_at : new.looked_at ≡ old.looked_at
   fewer : is_some old.verdict ≡ false → is_some new.verdict ≡ false
-  gone : is_some old.verdict ≡ true → is_some new.verdict ≡ false → new.held ≡ []
+  gone : is_some old.verdict ≡ true → is_some new.verdict ≡ false → new.frame_bytes ≡ []
   kept : is_some new.verdict ≡ is_some old.verdict → (arrival_of new).holding ≡ (arrival_of old).holding
   count : presence new.verdict + (if its then 1 else 0) ≡ presence old.verdict
   stays : presence new.verdict ≡ 1 → new ≡ old
@@ -119,13 +119,13 @@ released_after : (old new : Receiver) → StartsFrame old old.level [] new → p
     IsSideAfter old new true
 released_after old new b some = record {
   same = record { side = b.side; cap = b.cap; rules = b.rules };
-  coming = rw (b.unanswered, b.held, b.level_set) (ap (λ (bytes : List ℕ). record
+  coming = rw (b.unanswered, b.frame_bytes, b.level_set) (ap (λ (bytes : List ℕ). record
       { pending = bytes; noted = old.level })
       (blank old.verdict some));
   total = b.total;
   looked_at = b.looked_at;
   fewer = λ e. ap is_some b.unanswered;
-  gone = λ waits none. b.held;
+  gone = λ waits none. b.frame_bytes;
   kept = λ e. absurd (still old.verdict some (sym e ∙ ap is_some b.unanswered));
   count = omega (arith, none, some);
   stays = λ e. absurd (omega (arith, none, e));
@@ -134,7 +134,7 @@ released_after old new b some = record {
     none : presence new.verdict ≡ 0
     none = ap presence b.unanswered
 
-    blank : (o : Option Verdict) → presence o ≡ 1 → [] ≡ pending_by o old.held
+    blank : (o : Option Verdict) → presence o ≡ 1 → [] ≡ pending_by o old.frame_bytes
     blank None e = absurd (omega (arith, e))
     blank (Some verdict) e = refl
 
@@ -270,7 +270,7 @@ module _ (f : Fields) (b : PerSide Receiver) (to : Side) (i : IsSound f)
           ∙ sym (ap (λ (a : ReceiveState). a.holding.looked_at) (was one).arrival);
       fewer = λ one. rw ((now one).awaited, (was one).awaited) (side one).fewer;
       gone = λ one. rw ((now one).awaited, (was one).awaited)
-          (λ some none. ap (λ (a : ReceiveState). a.holding.held) (now one).arrival ∙ (side one).gone some none);
+          (λ some none. ap (λ (a : ReceiveState). a.holding.frame_bytes) (now one).arrival ∙ (side one).gone some none);
       kept = λ one. rw ((now one).awaited, (was one).awaited)
           (λ e. ap (λ (a : ReceiveState). a.holding) (now one).arrival ∙ (side one).kept e
           ∙ sym (ap (λ (a : ReceiveState). a.holding) (was one).arrival));

@@ -97,7 +97,7 @@ front_is : (sides : PerSide Receiver) (to : Side) (gone : ℕ) (items : List Que
 front_is sides to gone [] h = refl
 front_is sides to gone (Answer side ∷ items) h =
     let i = at sides side in
-    let f = front_of_answer i.header (drop 4 i.held) i.verdict gone h in
+    let f = front_of_answer i.header (drop 4 i.frame_bytes) i.verdict gone h in
     (f.some, (f.rest, f.front))
 front_is sides to gone (Fm ∷ items) h =
     (omega (arith, length-drop gone fm_bytes, h), ([], sym (append-nil (drop gone fm_bytes))))

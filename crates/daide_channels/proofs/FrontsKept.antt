@@ -110,12 +110,12 @@ pub answer_fresh : (x : Receiver) (side to : Side) (verdict : Verdict) → x.ver
     (record { to = to; answers = Some side; bytes = drop 0 (whole_answer x) })
 answer_fresh x side to verdict given four aim = record {
   header = x.header;
-  body = drop 4 x.held;
+  body = drop 4 x.frame_bytes;
   verdict = verdict;
   aimed = aim;
   four = four;
-  whole = ap (bytes_by x.header (drop 4 x.held)) given;
-  cut = none_gone (answer_parts x) ∙ ap (parts_by x.header (drop 4 x.held)) given;
+  whole = ap (bytes_by x.header (drop 4 x.frame_bytes)) given;
+  cut = none_gone (answer_parts x) ∙ ap (parts_by x.header (drop 4 x.frame_bytes)) given;
 }
 
 -- a side with an answer

@@ -152,10 +152,10 @@ lets_more old mid new a b = record {
   where
     gone_by : (side : Side) → is_awaited (at old.queued) side ≡ true → is_awaited (at new.queued) side ≡ false →
         (k : Bool) →
-        is_awaited (at mid.queued) side ≡ k → (side_holding new side).held ≡ []
+        is_awaited (at mid.queued) side ≡ k → (side_holding new side).frame_bytes ≡ []
     gone_by side some none true e = b.gone side e none
     gone_by side some none false e =
-        ap (λ (h : Holding). h.held) (b.kept side (none ∙ sym e)) ∙ a.gone side some e
+        ap (λ (h : Holding). h.frame_bytes) (b.kept side (none ∙ sym e)) ∙ a.gone side some e
 
     kept_by : (side : Side) → is_awaited (at new.queued) side ≡ is_awaited (at old.queued) side → (k : Bool) →
         is_awaited (at mid.queued) side ≡ k →

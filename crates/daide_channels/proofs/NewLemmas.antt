@@ -10,7 +10,7 @@ pub record IsNewSide (cap : ℕ) (rules : ReaderLimits) (side : Side) (i : Recei
   pub its_cap : i.cap ≡ cap
   pub its_rules : i.rules ≡ rules
   pub lowest : i.level ≡ L0
-  pub empty : i.held ≡ []
+  pub empty : i.frame_bytes ≡ []
   pub unanswered : i.verdict ≡ None
   pub unasked : i.total ≡ 0
   pub unlooked : i.looked_at ≡ 0
@@ -38,7 +38,7 @@ quiet_of {cap} {rules} {f} a = record {
   cap_set = (a.each Bot).its_cap;
   rules_set = (a.each Bot).its_rules;
   coming = λ side. came side (a.each side);
-  held = λ side. held side (a.each side);
+  frame_bytes = λ side. frame_bytes side (a.each side);
   unasked = λ side. unasked side (a.each side);
   unlooked = λ side. unlooked side (a.each side);
   queued = λ to. queued to (a.none to);
@@ -53,10 +53,10 @@ quiet_of {cap} {rules} {f} a = record {
     came Bot n = came_of f.sides.bot Bot n
     came Server n = came_of f.sides.server Server n
 
-    held : (side : Side) → IsNewSide cap rules side (at f.sides side) →
-        (at (channels_of f).sides side).holding.held ≡ []
-    held Bot n = n.empty
-    held Server n = n.empty
+    frame_bytes : (side : Side) → IsNewSide cap rules side (at f.sides side) →
+        (at (channels_of f).sides side).holding.frame_bytes ≡ []
+    frame_bytes Bot n = n.empty
+    frame_bytes Server n = n.empty
 
     unasked : (side : Side) → IsNewSide cap rules side (at f.sides side) →
         (at (channels_of f).sides side).holding.total ≡ 0

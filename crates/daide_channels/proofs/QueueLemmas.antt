@@ -19,9 +19,9 @@ use Rattle.daide_channels.proofs.SidesLemmas.{IsSameSide, caps, rules_alike, its
 
 -- the bytes that a side's answer sends
 answer_is : (i x : Receiver) (head : Head) (verdict : Verdict) → Answers i head verdict x →
-    whole_answer x ≡ answer_bytes head (drop 4 i.held) verdict
+    whole_answer x ≡ answer_bytes head (drop 4 i.frame_bytes) verdict
 unfolding answer_bytes
-answer_is i x head verdict a = rw (a.verdict_set, a.header, a.held) refl
+answer_is i x head verdict a = rw (a.verdict_set, a.header, a.frame_bytes) refl
 
 answer_some : (i x : Receiver) (head : Head) (verdict : Verdict) → Answers i head verdict x → 0 < length (whole_answer x)
 unfolding answer_bytes head_bytes
@@ -157,7 +157,7 @@ post_waiting {f} {t} {side} {one} to {head} {verdict} {x} h a wires =
 -- the verdict is the grammar's verdict on the frame in the value t
 pub post_right : {f : Fields} {t : Channels} {side one : Side} (head : Head) (verdict : Verdict) →
     IsSeenFree f t side one → IsCorrectVerdict (at f.sides one).rules.words (at f.sides one).rules.max_depth
-    (question_of (at f.sides one).side (at f.sides one).level head (drop 4 (at f.sides one).held)) verdict →
+    (question_of (at f.sides one).side (at f.sides one).level head (drop 4 (at f.sides one).frame_bytes)) verdict →
     IsCorrectVerdict t.rules.words t.rules.max_depth (question_of side (noted t side) head (drop 4 (pending t side))) verdict
 post_right {f} {t} {side} {one} head verdict h right =
     let level : noted t side ≡ (at f.sides one).level = ap (λ (a : ReceiveState). a.coming.noted) h.seen.arrival in

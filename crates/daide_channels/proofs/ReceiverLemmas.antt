@@ -5,7 +5,7 @@ use Rattle.daide_channels.proofs.Common.{◌≡◌, ℕ, ◌+◌, ◌-◌, ◌*�
 use Rattle.daide_channels.proofs.Common.{length, take, drop, Option, None, refl, sym, ap, ◌∙◌, subst, arith}
 use Rattle.daide_channels.proofs.Common.{length-append, length-drop, append_assoc, append-nil, nat_lt, if◌then◌else◌}
 use Rattle.daide_channels.proofs.Common.{nat_tests, tokens_of, Side, Head, fed, head_in, head_part, lvl_scan_of}
-use Rattle.daide_channels.proofs.Common.{tokens_held, is_dm_head, IsCorrectVerdict, question_of, is_dm, side2_of, Level}
+use Rattle.daide_channels.proofs.Common.{frame_tokens, is_dm_head, IsCorrectVerdict, question_of, is_dm, side2_of, Level}
 use Rattle.daide_channels.proofs.Common.{start_symbol_of, Reading, IsRaised, HasReadPrefix, Verdict, StartsFrame}
 use Rattle.daide_channels.proofs.Common.{Receiver, ReaderLimits, ReadsMessageBytes, receiver_of, rules_of, tokens_ended}
 use Rattle.daide_frame.specs.Frames.{Cut, is_nothing, last_items}
@@ -60,9 +60,9 @@ not_below_four n e = grind (arith, nat_tests)
 
 -- the reader has read those tokens of the message that lie in the first of these bytes
 pub record IsReadFurther (limit : ℕ) (b more : List ℕ) : Type 0 where
-  pub within : 2 * length (tokens_held limit b) ≤ length (drop 4 (b ++ more))
-  pub front : tokens_of (take (2 * length (tokens_held limit b)) (drop 4 (b ++ more))) ≡ tokens_held limit b
-  pub few : length (drop 4 (b ++ more)) / 2 - length (tokens_held limit b) ≤ length more / 2 + 1
+  pub within : 2 * length (frame_tokens limit b) ≤ length (drop 4 (b ++ more))
+  pub front : tokens_of (take (2 * length (frame_tokens limit b)) (drop 4 (b ++ more))) ≡ frame_tokens limit b
+  pub few : length (drop 4 (b ++ more)) / 2 - length (frame_tokens limit b) ≤ length more / 2 + 1
 
 -- the tokens of a front, even if the rest begins inside a token
 tokens_front : (w more : List ℕ) → tokens_of (take (2 * (length w / 2)) (w ++ more)) ≡ tokens_of w
@@ -73,7 +73,7 @@ read_on limit b more dm = by_test (nat_lt (length b) 4) refl
   where
     early : length b < 4 → IsReadFurther limit b more
     early l =
-        let none : tokens_held limit b ≡ [] = ap (λ h. if is_dm_head h then tokens_of (drop 4 b) else [])
+        let none : frame_tokens limit b ≡ [] = ap (λ h. if is_dm_head h then tokens_of (drop 4 b) else [])
         (head_in-short limit b l) in
         record {
           within = rw none (omega arith);
@@ -84,7 +84,7 @@ read_on limit b more dm = by_test (nat_lt (length b) 4) refl
     later : 4 ≤ length b → IsReadFurther limit b more
     later l =
         let same : is_dm_head (head_in limit b) ≡ true = ap is_dm_head (sym (head_in-more limit b more l)) ∙ dm in
-        let all : tokens_held limit b ≡ tokens_of (drop 4 b) = ap
+        let all : frame_tokens limit b ≡ tokens_of (drop 4 b) = ap
         (λ (k : Bool). if k then tokens_of (drop 4 b) else []) same in
         let count = tokens_of-length (drop 4 b) in
         record {
@@ -98,10 +98,10 @@ read_on limit b more dm = by_test (nat_lt (length b) 4) refl
     by_test false e = later (not_below_four (length b) e)
 
 -- the bytes of a frame that is no message hold no token
-pub none_held : (limit : ℕ) (b : List ℕ) → is_dm_head (head_in limit b) ≡ false → tokens_held limit b ≡ []
+pub none_held : (limit : ℕ) (b : List ℕ) → is_dm_head (head_in limit b) ≡ false → frame_tokens limit b ≡ []
 none_held limit b e = ap (λ (k : Bool). if k then tokens_of (drop 4 b) else []) e
 
-pub all_held : (limit : ℕ) (b : List ℕ) → is_dm_head (head_in limit b) ≡ true → tokens_held limit b
+pub all_held : (limit : ℕ) (b : List ℕ) → is_dm_head (head_in limit b) ≡ true → frame_tokens limit b
     ≡ tokens_of (drop 4 b)
 all_held limit b e = ap (λ (k : Bool). if k then tokens_of (drop 4 b) else []) e
 
@@ -116,10 +116,10 @@ no_dm_before limit b more e = by_test (nat_lt (length b) 4) refl
 
 -- a cutter consumed a piece of a message, and the reader has read the tokens that the cutter held before
 pub record IsFedOn (limit : ℕ) (b piece : List ℕ) (cut : Cut) : Type 0 where
-  pub within : 2 * length (tokens_held limit b) ≤ length (drop 4 cut.bytes)
-  pub front : tokens_of (take (2 * length (tokens_held limit b)) (drop 4 cut.bytes)) ≡ tokens_held limit b
-  pub ended : length (drop 4 cut.bytes) / 2 ≡ length (tokens_held limit (fed limit b piece))
-  pub all : tokens_held cut.cap cut.bytes ≡ tokens_of (drop 4 cut.bytes)
+  pub within : 2 * length (frame_tokens limit b) ≤ length (drop 4 cut.bytes)
+  pub front : tokens_of (take (2 * length (frame_tokens limit b)) (drop 4 cut.bytes)) ≡ frame_tokens limit b
+  pub ended : length (drop 4 cut.bytes) / 2 ≡ length (frame_tokens limit (fed limit b piece))
+  pub all : frame_tokens cut.cap cut.bytes ≡ tokens_of (drop 4 cut.bytes)
 
 pub fed_on : (limit : ℕ) (b piece : List ℕ) (cut : Cut) → cut.cap ≡ limit → cut.bytes ≡ fed limit b piece
     → is_dm_head (head_in cut.cap cut.bytes) ≡ true → IsFedOn limit b piece cut
@@ -135,8 +135,8 @@ fed_on limit b piece cut same bytes dm =
       within = rw is h.within;
       front = rw is h.front;
       ended = sym (tokens_of-length (drop 4 cut.bytes)) ∙ ap length (sym all)
-          ∙ (ap (λ (n : ℕ). length (tokens_held n cut.bytes)) same
-          ∙ ap (λ (x : List ℕ). length (tokens_held limit x)) bytes);
+          ∙ (ap (λ (n : ℕ). length (frame_tokens n cut.bytes)) same
+          ∙ ap (λ (x : List ℕ). length (frame_tokens limit x)) bytes);
       all = all;
     }
 
@@ -160,13 +160,13 @@ few_ended limit b piece = by_test (is_dm_head (head_in limit (b ++ g.more))) ref
         let h = read_on limit b g.more e in
         let few = h.few in
         let less = g.few in
-        let now : length (tokens_held limit (fed limit b piece)) ≡ length (drop 4 (b ++ g.more)) / 2 =
-        ap (λ (x : List ℕ). length (tokens_held limit x)) g.longer
+        let now : length (frame_tokens limit (fed limit b piece)) ≡ length (drop 4 (b ++ g.more)) / 2 =
+        ap (λ (x : List ℕ). length (frame_tokens limit x)) g.longer
         ∙ (ap length (all_held limit (b ++ g.more) e) ∙ tokens_of-length (drop 4 (b ++ g.more))) in
         omega (arith, few, less, now)
     by_test false e =
-        let none : length (tokens_held limit (fed limit b piece)) ≡ 0 =
-        ap (λ (x : List ℕ). length (tokens_held limit x)) g.longer ∙ ap length (none_held limit (b ++ g.more) e) in
+        let none : length (frame_tokens limit (fed limit b piece)) ≡ 0 =
+        ap (λ (x : List ℕ). length (frame_tokens limit x)) g.longer ∙ ap length (none_held limit (b ++ g.more) e) in
         omega (arith, none)
 
 -- the cutter consumed a piece of a frame that is no message
@@ -182,15 +182,15 @@ fed_past limit b piece cut same bytes dm =
 pub stands_deep : {T : Type 0} (table : Ghosts T) (side : Side) (level : Level) (v w : Reading T) (cut : Cut) →
     w.max_depth ≡ v.max_depth → table.words w.table ≡ table.words v.table →
     HasReadPrefix table (table.words v.table) (start_symbol_of (side2_of side) level) v.max_depth w
-    (tokens_held cut.cap cut.bytes) →
+    (frame_tokens cut.cap cut.bytes) →
     HasReadPrefix table (table.words w.table) (start_symbol_of (side2_of side) level) w.max_depth w
-    (tokens_held cut.cap cut.bytes)
+    (frame_tokens cut.cap cut.bytes)
 stands_deep table side level v w cut depth words stands =
     subst (λ (n : ℕ). HasReadPrefix table (table.words w.table) (start_symbol_of (side2_of side) level) n w
-    (tokens_held cut.cap cut.bytes))
+    (frame_tokens cut.cap cut.bytes))
     (sym depth)
     (subst (λ (x : Words). HasReadPrefix table x (start_symbol_of (side2_of side) level) v.max_depth w
-    (tokens_held cut.cap cut.bytes))
+    (frame_tokens cut.cap cut.bytes))
     (sym words) stands)
 
 -- the tokens read stay read when the frame gets other bytes and no answer
@@ -199,8 +199,8 @@ pub read_along : {T : Type 0} (table : Ghosts T) (asked : T → ℕ) (side : Sid
     IsReadOn table asked side level old v hlo header verdict → verdict ≡ None → new.cap ≡ old.cap →
     w.max_depth ≡ v.max_depth → table.words w.table ≡ table.words v.table → w.finished ≡ false →
     HasReadPrefix table (table.words v.table) (start_symbol_of (side2_of side) level) v.max_depth w
-    (tokens_held new.cap new.bytes) →
-    now.found ≡ lvl_scan_of (tokens_held new.cap new.bytes) →
+    (frame_tokens new.cap new.bytes) →
+    now.found ≡ lvl_scan_of (frame_tokens new.cap new.bytes) →
     (is_dm_head (head_in new.cap new.bytes) ≡ false → w.asked_before ≡ asked w.table) →
     (drop 4 new.bytes ≡ [] → w.asked_before ≡ asked w.table) →
     IsReadOn table asked side level new w now header verdict
@@ -239,7 +239,7 @@ reads_of table words asked side level old new v w hlo now header verdict bytes h
       cap = same;
       rules = rules;
       level = refl;
-      held = are;
+      frame_bytes = are;
       unanswered = none;
       base = base;
       no_message = λ e. no_message (ap (λ (n : ℕ). is_dm_head (head_in n new.bytes)) same
@@ -271,14 +271,14 @@ pub record IsJudged {T : Type 0} (table : Ghosts T) (words : T → Words) (asked
   pub capped : cut.cap ≤ 65526
   pub place : IsPlaceIn (drop 4 cut.bytes) verdict
   pub stands : HasReadPrefix table (table.words v.table) (start_symbol_of (side2_of side) level) v.max_depth v
-      (tokens_held cut.cap cut.bytes)
-  pub found : hlo.found ≡ lvl_scan_of (tokens_held cut.cap cut.bytes)
+      (frame_tokens cut.cap cut.bytes)
+  pub found : hlo.found ≡ lvl_scan_of (frame_tokens cut.cap cut.bytes)
   pub uncounted : is_dm_head (head_in cut.cap cut.bytes) ≡ false → v.asked_before ≡ asked v.table
-  pub right : IsCorrectVerdict old.rules.words old.rules.max_depth (question_of old.side old.level head (drop 4 old.held)) verdict
+  pub right : IsCorrectVerdict old.rules.words old.rules.max_depth (question_of old.side old.level head (drop 4 old.frame_bytes)) verdict
   pub same_side : side ≡ old.side
   pub same_cap : cut.cap ≡ old.cap
   pub same_level : level ≡ old.level
-  pub same_held : cut.bytes ≡ old.held
+  pub same_held : cut.bytes ≡ old.frame_bytes
   pub same_rules : rules_of words v ≡ old.rules
   pub base : v.asked_before ≡ old.total_before
   pub raised : IsRaised 4 old.total (asked v.table)
@@ -288,7 +288,7 @@ pub record IsJudged {T : Type 0} (table : Ghosts T) (words : T → Words) (asked
 -- ---- a message starts anew
 
 -- if no byte of a body is held, no token is held
-pub none_begun : (limit : ℕ) (b : List ℕ) → drop 4 b ≡ [] → tokens_held limit b ≡ []
+pub none_begun : (limit : ℕ) (b : List ℕ) → drop 4 b ≡ [] → frame_tokens limit b ≡ []
 none_begun limit b e =
     ap (λ (x : List ℕ). if is_dm_head (head_in limit b) then tokens_of x else []) e ∙ go (is_dm_head (head_in limit b))
   where
@@ -335,7 +335,7 @@ begins_of words asked side before after level old cut v w hlo later header verdi
       cap = same;
       rules = rules_kept words v w depth (ap words kept);
       level_set = set;
-      held = are;
+      frame_bytes = are;
       unanswered = none;
       total = ap asked kept;
       base = base;

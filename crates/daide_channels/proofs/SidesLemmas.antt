@@ -85,7 +85,7 @@ read_sound {x = x} h r = sound_side x h (same_if_read r) r.unanswered
 
 -- a side's room
 pub fits_side : {f : Fields} {t : Channels} {side one : Side} (n : ℕ) → IsSeenFree f t side one →
-    n ≤ missing t.cap (pending t side) → n ≤ missing (at f.sides one).cap (at f.sides one).held
+    n ≤ missing t.cap (pending t side) → n ≤ missing (at f.sides one).cap (at f.sides one).frame_bytes
 fits_side {f} {t} {side} {one} n h l = rw (h.seen.cap, h.pending) at l
 
 -- the queues stay the same
@@ -161,7 +161,7 @@ raised_side {f} {t} {side} {one} n x w h r =
 -- the count rises only by the look-ups for the tokens that a piece completes
 pub raised_ended : {f : Fields} {t : Channels} {side one : Side} (piece : List ℕ) (x : Receiver) (w : PerSide Queue) →
     IsSeenFree f t side one →
-    IsRaised (4 * tokens_ended (at f.sides one).cap (at f.sides one).held piece) (at f.sides one).total x.total →
+    IsRaised (4 * tokens_ended (at f.sides one).cap (at f.sides one).frame_bytes piece) (at f.sides one).total x.total →
     IsRaised (4 * tokens_ended t.cap (pending t side) piece) (side_holding t side).total
     (side_holding (channels_of (with_both f one x w)) side).total
 raised_ended {f} {t} {side} {one} piece x w h r =
@@ -183,24 +183,24 @@ looked_side {f} {t} {side} {one} n x w h r =
     (sym (ap (λ (a : ReceiveState). a.holding.looked_at) (arrived_both f side one x w h.its))) r)
 
 pub pending_arrived : (f : Fields) (side one : Side) (x : Receiver) → side ≡ one → x.verdict ≡ None →
-    pending (channels_of (with_side f one x)) side ≡ x.held
+    pending (channels_of (with_side f one x)) side ≡ x.frame_bytes
 pending_arrived f side one x s none =
     ap (λ (a : ReceiveState). a.coming.pending) (arrived f side one x s)
-    ∙ ap (λ (o : Option Verdict). pending_by o x.held) none
+    ∙ ap (λ (o : Option Verdict). pending_by o x.frame_bytes) none
 
 -- the frame starts anew
-pub started_of : (old new : Receiver) (level : Level) → old.verdict ≡ None → StartsFrame old level old.held new →
+pub started_of : (old new : Receiver) (level : Level) → old.verdict ≡ None → StartsFrame old level old.frame_bytes new →
     IsStarted (arrival_of old) level (arrival_of new)
 started_of old new level free b = record {
-  coming = rw (b.unanswered, free, b.held, b.level_set) refl;
-  held = b.held;
+  coming = rw (b.unanswered, free, b.frame_bytes, b.level_set) refl;
+  frame_bytes = b.frame_bytes;
   total = b.total;
   base = b.base;
   looked_at = b.looked_at;
 }
 
 pub started : {f : Fields} {t : Channels} {side one : Side} {x : Receiver} {level : Level} → IsSeenFree f t side one →
-    StartsFrame (at f.sides one) level (at f.sides one).held x →
+    StartsFrame (at f.sides one) level (at f.sides one).frame_bytes x →
     IsStarted (at t.sides side) level (at (channels_of (with_side f one x)).sides side)
 started {f} {t} {side} {one} {x} {level} h b =
     rw (h.seen.arrival, arrived f side one x h.seen.its) (started_of (at f.sides one) x level h.free b)
@@ -209,9 +209,9 @@ started {f} {t} {side} {one} {x} {level} h b =
 grown_of : (old new : Receiver) (bytes : List ℕ) → old.verdict ≡ None → ReadsMessageBytes old bytes new →
     IsGrown old.cap (arrival_of old) bytes (arrival_of new)
 grown_of old new bytes free r = record {
-  coming = rw (r.unanswered, r.held, r.level) refl;
-  held = r.held;
-  held_before = sym (ap (λ (o : Option Verdict). pending_by o old.held) free);
+  coming = rw (r.unanswered, r.frame_bytes, r.level) refl;
+  frame_bytes = r.frame_bytes;
+  held_before = sym (ap (λ (o : Option Verdict). pending_by o old.frame_bytes) free);
   base = r.base;
   no_message = r.no_message;
   bodiless = r.bodiless;
@@ -219,11 +219,11 @@ grown_of old new bytes free r = record {
 }
 
 pub grown : {f : Fields} {t : Channels} {side one : Side} (x : Receiver) (piece : List ℕ) → IsSeenFree f t side one →
-    ReadsMessageBytes (at f.sides one) (fed (at f.sides one).cap (at f.sides one).held piece) x →
+    ReadsMessageBytes (at f.sides one) (fed (at f.sides one).cap (at f.sides one).frame_bytes piece) x →
     IsGrown t.cap (at t.sides side) (fed t.cap (pending t side) piece) (at (channels_of (with_side f one x)).sides side)
 grown {f} {t} {side} {one} x piece h r =
     rw (h.pending, h.seen.arrival, arrived f side one x h.seen.its, h.seen.cap)
-    (grown_of (at f.sides one) x (fed (at f.sides one).cap (at f.sides one).held piece) h.free r)
+    (grown_of (at f.sides one) x (fed (at f.sides one).cap (at f.sides one).frame_bytes piece) h.free r)
 
 -- the step returned for the piece
 pub record IsReportedOf (cap : ℕ) (bytes piece : List ℕ) (step : Step) (new_bytes : List ℕ) : Type 0 where
@@ -231,8 +231,8 @@ pub record IsReportedOf (cap : ℕ) (bytes piece : List ℕ) (step : Step) (new_
   pub whole : IsFault step ⊎ (new_bytes ≡ bytes ++ piece)
 
 pub told_of : {f : Fields} {t : Channels} {side one : Side} (x : Receiver) (piece : List ℕ) (step : Step) →
-    IsSeenFree f t side one → ReadsMessageBytes (at f.sides one) (fed (at f.sides one).cap (at f.sides one).held piece) x →
-    IsReportedOf (at f.sides one).cap (at f.sides one).held piece step x.held →
+    IsSeenFree f t side one → ReadsMessageBytes (at f.sides one) (fed (at f.sides one).cap (at f.sides one).frame_bytes piece) x →
+    IsReportedOf (at f.sides one).cap (at f.sides one).frame_bytes piece step x.frame_bytes →
     IsReportedOf t.cap (pending t side) piece step (pending (channels_of (with_side f one x)) side)
 told_of {f} {t} {side} {one} x piece step h r reported =
     rw (pending_arrived f side one x h.seen.its r.unanswered, h.pending, h.seen.cap) reported
@@ -240,20 +240,20 @@ told_of {f} {t} {side} {one} x piece step h r reported =
 -- what is held at a step is the side's
 pub held_side : {f : Fields} {t : Channels} {side one : Side} {x : Receiver} {bytes : List ℕ} (step : Step) →
     IsSeenFree f t side one → ReadsMessageBytes (at f.sides one) bytes x →
-    HoldsFrame step (head_in x.cap x.held) (drop 4 x.held) →
+    HoldsFrame step (head_in x.cap x.frame_bytes) (drop 4 x.frame_bytes) →
     HoldsFrame step (head_in (channels_of (with_side f one x)).cap (pending (channels_of (with_side f one x)) side))
     (drop 4 (pending (channels_of (with_side f one x)) side))
-held_side {f} {t} {side} {one} {x} {bytes} step h r held =
+held_side {f} {t} {side} {one} {x} {bytes} step h r frame_bytes =
     subst (λ (b : List ℕ). HoldsFrame step (head_in (channels_of (with_side f one x)).cap b) (drop 4 b))
     (sym (pending_arrived f side one x h.seen.its r.unanswered))
-    (subst (λ (n : ℕ). HoldsFrame step (head_in n x.held) (drop 4 x.held))
-    (r.cap ∙ sym h.seen.cap ∙ sym (cap_kept f t one x h.seen.is r.cap)) held)
+    (subst (λ (n : ℕ). HoldsFrame step (head_in n x.frame_bytes) (drop 4 x.frame_bytes))
+    (r.cap ∙ sym h.seen.cap ∙ sym (cap_kept f t one x h.seen.is r.cap)) frame_bytes)
 
 -- the frame was dropped
 cleared_of : (old new : Receiver) → StartsFrame old old.level [] new → IsCleared (arrival_of old) (arrival_of new)
 cleared_of old new b = record {
-  coming = rw (b.unanswered, b.held, b.level_set) refl;
-  held = b.held;
+  coming = rw (b.unanswered, b.frame_bytes, b.level_set) refl;
+  frame_bytes = b.frame_bytes;
   total = b.total;
   base = b.base;
   looked_at = b.looked_at;
@@ -270,7 +270,7 @@ answered_of : (old new : Receiver) (head : Head) (verdict : Verdict) → Answers
     IsAnswered (arrival_of old) (arrival_of new)
 answered_of old new head verdict a = record {
   coming = rw (a.verdict_set, a.level) refl;
-  held = a.held;
+  frame_bytes = a.frame_bytes;
   base = a.base;
   looked_at = a.looked_at;
 }

@@ -48,7 +48,7 @@ pub record IsQuiet (cap : ℕ) (rules : ReaderLimits) (t : Channels) : Type 0 wh
   pub cap_set : t.cap ≡ cap
   pub rules_set : t.rules ≡ rules
   pub coming : (side : Side) → (at t.sides side).coming ≡ record { pending = []; noted = L0 }
-  pub held : (side : Side) → (side_holding t side).held ≡ []
+  pub frame_bytes : (side : Side) → (side_holding t side).frame_bytes ≡ []
   pub unasked : (side : Side) → (side_holding t side).total ≡ 0
   pub unlooked : (side : Side) → (side_holding t side).looked_at ≡ 0
   pub queued : (to : Side) → at t.queued to ≡ []
@@ -62,8 +62,8 @@ pub record Keeps (side : Side) (old new : Channels) : Type 0 where
 -- A side's frame now has these bytes, and its message was read up to them. Only tokens of a message are looked up.
 pub record IsGrown (cap : ℕ) (old : ReceiveState) (bytes : List ℕ) (new : ReceiveState) : Type 0 where
   pub coming : new.coming ≡ record { pending = bytes; noted = old.coming.noted }
-  pub held : new.holding.held ≡ bytes
-  pub held_before : old.holding.held ≡ old.coming.pending
+  pub frame_bytes : new.holding.frame_bytes ≡ bytes
+  pub held_before : old.holding.frame_bytes ≡ old.coming.pending
   pub base : new.holding.total_before ≡ old.holding.total_before
   pub no_message : is_dm_head (head_in cap bytes) ≡ false → new.holding.total ≡ old.holding.total
   pub bodiless : drop 4 bytes ≡ [] → new.holding.total ≡ old.holding.total
@@ -72,7 +72,7 @@ pub record IsGrown (cap : ℕ) (old : ReceiveState) (bytes : List ℕ) (new : Re
 -- a side's message starts at a level
 pub record IsStarted (old : ReceiveState) (level : Level) (new : ReceiveState) : Type 0 where
   pub coming : new.coming ≡ record { pending = old.coming.pending; noted = level }
-  pub held : new.holding.held ≡ old.holding.held
+  pub frame_bytes : new.holding.frame_bytes ≡ old.holding.frame_bytes
   pub total : new.holding.total ≡ old.holding.total
   pub base : new.holding.total_before ≡ old.holding.total
   pub looked_at : new.holding.looked_at ≡ old.holding.looked_at
@@ -80,14 +80,14 @@ pub record IsStarted (old : ReceiveState) (level : Level) (new : ReceiveState) :
 -- a side's frame has its answer
 pub record IsAnswered (old new : ReceiveState) : Type 0 where
   pub coming : new.coming ≡ record { pending = []; noted = old.coming.noted }
-  pub held : new.holding.held ≡ old.holding.held
+  pub frame_bytes : new.holding.frame_bytes ≡ old.holding.frame_bytes
   pub base : new.holding.total_before ≡ old.holding.total_before
   pub looked_at : new.holding.looked_at ≡ old.holding.looked_at
 
 -- a side's frame was dropped
 pub record IsCleared (old new : ReceiveState) : Type 0 where
   pub coming : new.coming ≡ record { pending = []; noted = old.coming.noted }
-  pub held : new.holding.held ≡ []
+  pub frame_bytes : new.holding.frame_bytes ≡ []
   pub total : new.holding.total ≡ old.holding.total
   pub base : new.holding.total_before ≡ old.holding.total
   pub looked_at : new.holding.looked_at ≡ old.holding.looked_at
@@ -102,7 +102,7 @@ pub record ReleasesFrames (old new : Channels) : Type 0 where
   pub looked_at : (side : Side) → (side_holding new side).looked_at ≡ (side_holding old side).looked_at
   pub fewer : (side : Side) → is_awaited (at old.queued) side ≡ false → is_awaited (at new.queued) side ≡ false
   pub gone : (side : Side) → is_awaited (at old.queued) side ≡ true → is_awaited (at new.queued) side ≡ false →
-      (side_holding new side).held ≡ []
+      (side_holding new side).frame_bytes ≡ []
   pub kept : (side : Side) → is_awaited (at new.queued) side ≡ is_awaited (at old.queued) side →
       side_holding new side ≡ side_holding old side
 
@@ -185,9 +185,9 @@ pending_by (Some verdict) bytes = []
 
 abbrev pub arrival_of : Receiver → ReceiveState
 arrival_of i = record {
-  coming = record { pending = pending_by i.verdict i.held; noted = i.level };
+  coming = record { pending = pending_by i.verdict i.frame_bytes; noted = i.level };
   holding = record {
-    held = i.held;
+    frame_bytes = i.frame_bytes;
     entries = i.entries;
     total = i.total;
     total_before = i.total_before;

@@ -22,7 +22,7 @@ use Rattle.daide_protocol.specs.Answers.{answer_body, answer_head, prn_open, huh
 use Rattle.daide_protocol.specs.Bounds.{longest_body}
 use Rattle.daide_protocol.specs.HloLevel.{lvl_scan_of}
 use Rattle.daide_protocol.specs.Machine.{side2_of}
-use Rattle.daide_protocol.specs.Weight.{tokens_held}
+use Rattle.daide_protocol.specs.Weight.{frame_tokens}
 use Rattle.daide_protocol.specs.Wires.{is_dm_head}
 
 -- the limits of a parse: the most brackets open at once, and the operator's words
@@ -37,7 +37,7 @@ pub record Receiver : Type 0 where
   -- the level at which the message is read
   pub level : Level
   -- the frame's bytes so far, also while its answer is queued
-  pub held : List ℕ
+  pub frame_bytes : List ℕ
   -- the header of the answer, and the verdict; none before the frame is judged
   pub header : List ℕ
   pub verdict : Option Verdict
@@ -50,7 +50,7 @@ pub record Receiver : Type 0 where
 
 -- how many tokens of a message a piece completes, after these bytes of its frame
 abbrev pub tokens_ended : ℕ → List ℕ → List ℕ → ℕ
-tokens_ended cap held piece = length (tokens_held cap (fed cap held piece)) - length (tokens_held cap held)
+tokens_ended cap frame_bytes piece = length (frame_tokens cap (fed cap frame_bytes piece)) - length (frame_tokens cap frame_bytes)
 
 -- ---- the answer in place
 
@@ -75,10 +75,10 @@ front_in (part ∷ parts) place =
     if nat_lt place (length part) then drop place part else front_in parts (place - length part)
 
 abbrev pub whole_answer : Receiver → List ℕ
-whole_answer i = bytes_by i.header (drop 4 i.held) i.verdict
+whole_answer i = bytes_by i.header (drop 4 i.frame_bytes) i.verdict
 
 abbrev pub answer_parts : Receiver → List (List ℕ)
-answer_parts i = parts_by i.header (drop 4 i.held) i.verdict
+answer_parts i = parts_by i.header (drop 4 i.frame_bytes) i.verdict
 
 -- the next chunk of the answer, after its first `gone` bytes
 abbrev pub front_after : Receiver → ℕ → List ℕ
@@ -101,7 +101,7 @@ receiver_of words asked side level cut v hlo header verdict = record {
   cap = cut.cap;
   rules = rules_of words v;
   level = level;
-  held = cut.bytes;
+  frame_bytes = cut.bytes;
   header = header;
   verdict = verdict;
   entries = length v.stack;
@@ -111,8 +111,8 @@ receiver_of words asked side level cut v hlo header verdict = record {
 }
 
 abbrev pub HasHuhIndex : List ℕ → Option Verdict → Type 0
-HasHuhIndex held None = Unit {0}
-HasHuhIndex held (Some verdict) = IsPlaceIn (drop 4 held) verdict
+HasHuhIndex frame_bytes None = Unit {0}
+HasHuhIndex frame_bytes (Some verdict) = IsPlaceIn (drop 4 frame_bytes) verdict
 
 -- The reader and the HLO scan have read exactly the whole tokens of the held message. This holds at a header, inside a
 -- body, at its end, and while the answer is queued.
@@ -122,8 +122,8 @@ pub record IsReadOn {T : Type 0} (table : Ghosts T) (asked : T → ℕ) (side : 
   pub place : HasHuhIndex cut.bytes verdict
   pub capped : cut.cap ≤ longest_body
   pub stands : HasReadPrefix table (table.words v.table) (start_symbol_of (side2_of side) level) v.max_depth v
-      (tokens_held cut.cap cut.bytes)
-  pub found : hlo.found ≡ lvl_scan_of (tokens_held cut.cap cut.bytes)
+      (frame_tokens cut.cap cut.bytes)
+  pub found : hlo.found ≡ lvl_scan_of (frame_tokens cut.cap cut.bytes)
   pub unfinished : verdict ≡ None → v.finished ≡ false
   -- look-ups are made for a message only
   pub uncounted : is_dm_head (head_in cut.cap cut.bytes) ≡ false → v.asked_before ≡ asked v.table
@@ -138,7 +138,7 @@ pub record StartsFrame (old : Receiver) (level : Level) (bytes : List ℕ) (new 
   pub cap : new.cap ≡ old.cap
   pub rules : new.rules ≡ old.rules
   pub level_set : new.level ≡ level
-  pub held : new.held ≡ bytes
+  pub frame_bytes : new.frame_bytes ≡ bytes
   pub unanswered : new.verdict ≡ None
   pub total : new.total ≡ old.total
   pub base : new.total_before ≡ old.total
@@ -150,12 +150,12 @@ pub record ReadsMessageBytes (old : Receiver) (bytes : List ℕ) (new : Receiver
   pub cap : new.cap ≡ old.cap
   pub rules : new.rules ≡ old.rules
   pub level : new.level ≡ old.level
-  pub held : new.held ≡ bytes
+  pub frame_bytes : new.frame_bytes ≡ bytes
   pub unanswered : new.verdict ≡ None
   pub base : new.total_before ≡ old.total_before
   pub no_message : is_dm_head (head_in old.cap bytes) ≡ false → new.total ≡ old.total
   pub bodiless : drop 4 bytes ≡ [] → new.total ≡ old.total
-  pub uncounted : is_dm_head (head_in old.cap old.held) ≡ false → old.total_before ≡ old.total
+  pub uncounted : is_dm_head (head_in old.cap old.frame_bytes) ≡ false → old.total_before ≡ old.total
 
 -- the frame has the answer that a verdict selects
 pub record Answers (old : Receiver) (head : Head) (verdict : Verdict) (new : Receiver) : Type 0 where
@@ -163,7 +163,7 @@ pub record Answers (old : Receiver) (head : Head) (verdict : Verdict) (new : Rec
   pub cap : new.cap ≡ old.cap
   pub rules : new.rules ≡ old.rules
   pub level : new.level ≡ old.level
-  pub held : new.held ≡ old.held
+  pub frame_bytes : new.frame_bytes ≡ old.frame_bytes
   pub header : new.header ≡ head_bytes (answer_head head verdict)
   pub verdict_set : new.verdict ≡ Some verdict
   pub base : new.total_before ≡ old.total_before

@@ -14,7 +14,7 @@ ghost use Rattle.daide_grammar.specs.Bounds.{entries_bound, most_steps, message_
 ghost use Rattle.daide_frame.specs.Side.{other};
 ghost use Rattle.daide_protocol.specs.HloLevel.{lvl_scan_of};
 ghost use Rattle.daide_protocol.specs.Machine.{IsCorrectVerdict, question_of, is_dm, reply_to};
-ghost use Rattle.daide_protocol.specs.Weight.{tokens_held};
+ghost use Rattle.daide_protocol.specs.Weight.{frame_tokens};
 ghost use Rattle.daide_protocol.specs.Wires.{IsFrontOf, first_len, without, sent_bytes, is_awaited, steps_of};
 ghost use Rattle.daide_protocol.specs.Wires.{next_part, parts_after};
 ghost use Rattle.daide_protocol.specs.Bounds.{greatest_depth, longest_body};
@@ -157,21 +157,21 @@ impl<A: Allocator> Channels<A> {
     pub fn is_awaited(&self, side: Side) -> bool
         ensures value { result ≡ is_awaited (at self.now.queued) side }
         ensures tied { is_awaited (at self.now.queued) side ≡ false
-            → (side_holding self.now side).held ≡ pending self.now side }
+            → (side_holding self.now side).frame_bytes ≡ pending self.now side }
     {
         self.receivers.at(side).is_awaited()
     }
 
     /// Returns how many bytes a side's header still lacks or, once it is whole, its body.
     pub fn room(&self, side: Side) -> usize
-        ensures { result ≡ missing self.now.cap (side_holding self.now side).held }
+        ensures { result ≡ missing self.now.cap (side_holding self.now side).frame_bytes }
     {
         self.receivers.at(side).room()
     }
 
     /// Returns a side's header, once it is whole and valid.
     pub fn head(&self, side: Side) -> Option<Head>
-        ensures { result ≡ head_in self.now.cap (side_holding self.now side).held }
+        ensures { result ≡ head_in self.now.cap (side_holding self.now side).frame_bytes }
     {
         self.receivers.at(side).head()
     }
@@ -179,19 +179,19 @@ impl<A: Allocator> Channels<A> {
     /// Returns a side's body as far as it is received, also while its answer is queued. If no answer is queued, the
     /// held bytes are those since the last whole frame.
     pub fn body(&self, side: Side) -> &[u8]
-        ensures value { result.now ≡ drop 4 (side_holding self.now side).held }
-        ensures within { length result.now ≤ announced self.now.cap (side_holding self.now side).held }
-        ensures capped { announced self.now.cap (side_holding self.now side).held ≤ self.now.cap }
+        ensures value { result.now ≡ drop 4 (side_holding self.now side).frame_bytes }
+        ensures within { length result.now ≤ announced self.now.cap (side_holding self.now side).frame_bytes }
+        ensures capped { announced self.now.cap (side_holding self.now side).frame_bytes ≤ self.now.cap }
         ensures short { length result.now ≤ longest_body }
         ensures tied { is_awaited (at self.now.queued) side ≡ false
-            → (side_holding self.now side).held ≡ pending self.now side }
+            → (side_holding self.now side).frame_bytes ≡ pending self.now side }
     {
         self.receivers.at(side).body()
     }
 
     /// Returns a side's header as far as it is received, valid or not, also while its answer is queued.
     pub fn header(&self, side: Side) -> &[u8]
-        ensures { result.now ≡ take 4 (side_holding self.now side).held }
+        ensures { result.now ≡ take 4 (side_holding self.now side).frame_bytes }
     {
         self.receivers.at(side).header()
     }
@@ -205,7 +205,7 @@ impl<A: Allocator> Channels<A> {
 
     /// Returns the state of the HLO scan in a side's message, also while its answer is queued.
     pub fn found(&self, side: Side) -> LvlScan
-        ensures { result ≡ lvl_scan_of (tokens_held self.now.cap (side_holding self.now side).held) }
+        ensures { result ≡ lvl_scan_of (frame_tokens self.now.cap (side_holding self.now side).frame_bytes) }
     {
         self.receivers.at(side).found()
     }
@@ -228,7 +228,7 @@ impl<A: Allocator> Channels<A> {
     /// Returns the height of the reader's stack for a side.
     pub fn entries(&self, side: Side) -> usize
         ensures value { result ≡ (side_holding self.now side).entries }
-        ensures few { result ≤ entries_bound (open_brackets (tokens_held self.now.cap (side_holding self.now side).held)) }
+        ensures few { result ≤ entries_bound (open_brackets (frame_tokens self.now.cap (side_holding self.now side).frame_bytes)) }
         ensures at_most { result ≤ entries_bound self.now.rules.max_depth }
     {
         self.receivers.at(side).entries()
@@ -244,7 +244,7 @@ impl<A: Allocator> Channels<A> {
     /// Returns the number of look-ups in a side's table for the present message, modulo 2^64.
     pub fn steps(&self, side: Side) -> u64
         ensures value { result ≡ steps_of (side_holding self.now side) }
-        ensures few { result ≤ message_steps (length (tokens_held self.now.cap (side_holding self.now side).held))
+        ensures few { result ≤ message_steps (length (frame_tokens self.now.cap (side_holding self.now side).frame_bytes))
             (is_awaited (at self.now.queued) side) }
     {
         self.receivers.at(side).steps()
@@ -271,7 +271,7 @@ impl<A: Allocator> Channels<A> {
         ensures whole { IsFault result ⊎ (pending self.new side ≡ pending self.old side ++ piece.now) }
 
         // The step carries the header that is held. At `Bodied` the body has exactly the length that it announces.
-        ensures held { HoldsFrame result (head_in self.new.cap (pending self.new side)) (drop 4 (pending self.new side)) }
+        ensures frame_bytes { HoldsFrame result (head_in self.new.cap (pending self.new side)) (drop 4 (pending self.new side)) }
     {
         self.receivers.at_mut(side).feed(piece)
     }

@@ -15,7 +15,7 @@ ghost use Rattle.daide_grammar.specs.Bounds.{entries_bound, most_steps, message_
 ghost use Rattle.daide_grammar.specs.declared.level.Level.{Level};
 ghost use Rattle.daide_protocol.specs.HloLevel.{lvl_scan_of};
 ghost use Rattle.daide_protocol.specs.Machine.{IsCorrectVerdict, question_of, is_dm};
-ghost use Rattle.daide_protocol.specs.Weight.{tokens_held};
+ghost use Rattle.daide_protocol.specs.Weight.{frame_tokens};
 ghost use Rattle.daide_protocol.specs.Wires.{is_dm_head};
 ghost use Rattle.daide_protocol.specs.Bounds.{greatest_depth, longest_body};
 ghost use Rattle.daide_reader.specs.Bounds.{longest_message};
@@ -146,7 +146,7 @@ impl<A: Memory> Receiver<A> {
         ensures limits { IfOk result (λ i. (i.cap ≡ cap) × (i.level ≡ Level.L0)) }
         ensures rules { IfOk result (λ i. i.rules
             ≡ record { max_depth = max_depth; words = grammar_words (words_of words) }) }
-        ensures empty { IfOk result (λ i. (i.held ≡ []) × (i.verdict ≡ None)) }
+        ensures empty { IfOk result (λ i. (i.frame_bytes ≡ []) × (i.verdict ≡ None)) }
         ensures unasked { IfOk result (λ i. i.total ≡ 0) }
         ensures unlooked { IfOk result (λ i. i.looked_at ≡ 0) }
         ensures refused { OnErr result (A.Refuses cap) }
@@ -178,23 +178,23 @@ impl<A: Allocator> Receiver<A> {
 
     /// Returns how many bytes the header still lacks or, once it is whole, the body.
     pub fn room(&self) -> usize
-        ensures { result ≡ missing self.now.cap self.now.held }
+        ensures { result ≡ missing self.now.cap self.now.frame_bytes }
     {
         self.cutter.room()
     }
 
     /// Returns the header, once it is whole and valid.
     pub fn head(&self) -> Option<Head>
-        ensures { result ≡ head_in self.now.cap self.now.held }
+        ensures { result ≡ head_in self.now.cap self.now.frame_bytes }
     {
         self.cutter.head()
     }
 
     /// Returns the bytes held of the body, also while its answer is queued.
     pub fn body(&self) -> &[u8]
-        ensures value { result.now ≡ drop 4 self.now.held }
-        ensures within { length result.now ≤ announced self.now.cap self.now.held }
-        ensures capped { announced self.now.cap self.now.held ≤ self.now.cap }
+        ensures value { result.now ≡ drop 4 self.now.frame_bytes }
+        ensures within { length result.now ≤ announced self.now.cap self.now.frame_bytes }
+        ensures capped { announced self.now.cap self.now.frame_bytes ≤ self.now.cap }
         ensures short { length result.now ≤ longest_body }
     {
         self.cutter.body()
@@ -202,7 +202,7 @@ impl<A: Allocator> Receiver<A> {
 
     /// Returns the bytes held of the header, valid or not, also while its answer is queued.
     pub fn header(&self) -> &[u8]
-        ensures { result.now ≡ take 4 self.now.held }
+        ensures { result.now ≡ take 4 self.now.frame_bytes }
     {
         self.cutter.header()
     }
@@ -217,8 +217,8 @@ impl<A: Allocator> Receiver<A> {
     /// Starts the message at this level. The header is whole and the body is still empty.
     pub fn begin(&mut self, level: Level)
         requires free { self.old.verdict ≡ None }
-        requires bodiless { drop 4 self.old.held ≡ [] }
-        ensures { StartsFrame self.old level self.old.held self.new }
+        requires bodiless { drop 4 self.old.frame_bytes ≡ [] }
+        ensures { StartsFrame self.old level self.old.frame_bytes self.new }
     {
         // `new` and `clear` have started reader and scan at the level that is kept.
         if self.level == level {
@@ -234,14 +234,14 @@ impl<A: Allocator> Receiver<A> {
     #[inline(always)]
     pub fn feed(&mut self, piece: &[u8]) -> Step
         requires free { self.old.verdict ≡ None }
-        requires room { length piece.now ≤ missing self.old.cap self.old.held }
-        ensures reads { ReadsMessageBytes self.old (fed self.old.cap self.old.held piece.now) self.new }
-        ensures raised { IsRaised (most_steps * tokens_ended self.old.cap self.old.held piece.now) self.old.total
+        requires room { length piece.now ≤ missing self.old.cap self.old.frame_bytes }
+        ensures reads { ReadsMessageBytes self.old (fed self.old.cap self.old.frame_bytes piece.now) self.new }
+        ensures raised { IsRaised (most_steps * tokens_ended self.old.cap self.old.frame_bytes piece.now) self.old.total
             self.new.total }
         ensures looked_at { IsRaised (length piece.now / 2 + 1) self.old.looked_at self.new.looked_at }
-        ensures items { fed_items self.old.cap self.old.held piece.now ≡ items_of_step result (drop 4 self.new.held) }
-        ensures whole { IsFault result ⊎ (self.new.held ≡ self.old.held ++ piece.now) }
-        ensures held { HoldsFrame result (head_in self.new.cap self.new.held) (drop 4 self.new.held) }
+        ensures items { fed_items self.old.cap self.old.frame_bytes piece.now ≡ items_of_step result (drop 4 self.new.frame_bytes) }
+        ensures whole { IsFault result ⊎ (self.new.frame_bytes ≡ self.old.frame_bytes ++ piece.now) }
+        ensures frame_bytes { HoldsFrame result (head_in self.new.cap self.new.frame_bytes) (drop 4 self.new.frame_bytes) }
     {
         let step = self.cutter.feed(piece);
         if self.cutter.body().is_empty() {
@@ -261,9 +261,9 @@ impl<A: Allocator> Receiver<A> {
     #[inline(always)]
     pub fn answer(&mut self, head: Head) -> Verdict
         requires free { self.old.verdict ≡ None }
-        requires head { head_in self.old.cap self.old.held ≡ Some head }
+        requires head { head_in self.old.cap self.old.frame_bytes ≡ Some head }
         ensures right { IsCorrectVerdict self.old.rules.words self.old.rules.max_depth
-            (question_of self.old.side self.old.level head (drop 4 self.old.held)) result }
+            (question_of self.old.side self.old.level head (drop 4 self.old.frame_bytes)) result }
         ensures answers { Answers self.old head result self.new }
         ensures raised { IsRaised most_steps self.old.total self.new.total }
         ensures no_message { is_dm head.kind ≡ false → self.new.total ≡ self.old.total }
@@ -351,7 +351,7 @@ impl<A: Allocator> Receiver<A> {
 
     /// Returns the state of the HLO scan of the held message, also while its answer is queued.
     pub fn found(&self) -> LvlScan
-        ensures { result ≡ lvl_scan_of (tokens_held self.now.cap self.now.held) }
+        ensures { result ≡ lvl_scan_of (frame_tokens self.now.cap self.now.frame_bytes) }
     {
         self.hlo.found()
     }
@@ -366,7 +366,7 @@ impl<A: Allocator> Receiver<A> {
     /// Returns the height of the reader's stack.
     pub fn entries(&self) -> usize
         ensures value { result ≡ self.now.entries }
-        ensures few { result ≤ entries_bound (open_brackets (tokens_held self.now.cap self.now.held)) }
+        ensures few { result ≤ entries_bound (open_brackets (frame_tokens self.now.cap self.now.frame_bytes)) }
         ensures at_most { result ≤ entries_bound self.now.rules.max_depth }
     {
         self.reader.entries()
@@ -383,7 +383,7 @@ impl<A: Allocator> Receiver<A> {
     /// end.
     pub fn steps(&self) -> u64
         ensures value { result ≡ steps_in self.now }
-        ensures few { result ≤ message_steps (length (tokens_held self.now.cap self.now.held)) (is_some self.now.verdict) }
+        ensures few { result ≤ message_steps (length (frame_tokens self.now.cap self.now.frame_bytes)) (is_some self.now.verdict) }
     {
         self.reader.steps()
     }

@@ -9,7 +9,7 @@ use daide_command_line::arguments::RunOrder;
 use daide_run::gateway::GatewayFault;
 use daide_run::running::RunFault;
 use daide_settings::{Key, Settings, SettingsError, read_settings};
-use daide_tools::faults::{FAULT, tell};
+use daide_tools::faults::{FAULT, print_fault};
 use daide_tools::settings_file::report_of;
 use std::alloc::Global;
 use std::io;
@@ -80,7 +80,7 @@ fn value_at(settings: &Settings, key: Key) -> &str {
 }
 
 /// Writes the value of a key that cannot be bound, from the text of the settings.
-fn tell_value<E: Write>(alloc: Global, text: &str, key: Key, cause: ErrorKind, errors: &mut E) {
+fn print_value<E: Write>(alloc: Global, text: &str, key: Key, cause: ErrorKind, errors: &mut E) {
     if let Ok(settings) = read_settings(alloc, text) {
         notice(
             errors,
@@ -90,7 +90,7 @@ fn tell_value<E: Write>(alloc: Global, text: &str, key: Key, cause: ErrorKind, e
 }
 
 /// Reports the fault of a name, with its key and its address from the text of the settings. Returns the status.
-fn tell_name<E: Write>(
+fn print_name_fault<E: Write>(
     alloc: Global,
     text: &str,
     key: Key,
@@ -102,21 +102,26 @@ fn tell_name<E: Write>(
     match read_settings(alloc, text) {
         Ok(settings) => {
             let address = value_at(&settings, key);
-            tell(errors, format_args!("{key} {address}: {fault}"), FAULT)
+            print_fault(errors, format_args!("{key} {address}: {fault}"), FAULT)
         }
-        Err(_) => tell(errors, RunFault::Memory, FAULT),
+        Err(_) => print_fault(errors, RunFault::Memory, FAULT),
     }
 }
 
 /// Writes the first fault of a text of settings, or all of them, each in a line. Returns the status.
-fn tell_faults<E: Write>(alloc: Global, text: &str, are_all: bool, errors: &mut E) -> io::Result<u8>
+fn print_faults<E: Write>(
+    alloc: Global,
+    text: &str,
+    are_all: bool,
+    errors: &mut E,
+) -> io::Result<u8>
     ensures { IfOk result (λ status. status ≡ FAULT) }
 {
     let Ok(report) = report_of(alloc, text) else {
-        return tell(errors, RunFault::Memory, FAULT);
+        return print_fault(errors, RunFault::Memory, FAULT);
     };
     for line in report.lines() {
-        tell(errors, line, FAULT)?;
+        print_fault(errors, line, FAULT)?;
         if !are_all {
             break;
         }
@@ -137,11 +142,11 @@ pub(crate) fn end_failed<E: Write>(
 {
     let subject = subject_of(fault);
     match subject {
-        FaultSubject::Text => return tell_faults(alloc, text, order.is_verbose, errors),
-        FaultSubject::Name(key) => return tell_name(alloc, text, key, fault, errors),
+        FaultSubject::Text => return print_faults(alloc, text, order.is_verbose, errors),
+        FaultSubject::Name(key) => return print_name_fault(alloc, text, key, fault, errors),
         FaultSubject::Folder(_) | FaultSubject::Value(..) | FaultSubject::Memory => {}
     }
-    let status = tell(errors, fault, FAULT)?;
+    let status = print_fault(errors, fault, FAULT)?;
     if order.is_verbose {
         match subject {
             FaultSubject::Folder(cause) => {
@@ -150,7 +155,7 @@ pub(crate) fn end_failed<E: Write>(
                     CauseNotice::Folder(order.record.unwrap_or(""), cause),
                 );
             }
-            FaultSubject::Value(key, cause) => tell_value(alloc, text, key, cause, errors),
+            FaultSubject::Value(key, cause) => print_value(alloc, text, key, cause, errors),
             FaultSubject::Text | FaultSubject::Name(_) | FaultSubject::Memory => {}
         }
     }

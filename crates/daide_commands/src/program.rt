@@ -12,7 +12,7 @@ use daide_command_line::hints::{suggest, usage_hint};
 use daide_log::Sink;
 use daide_tools::checking::run_check;
 use daide_tools::controlling::{run_status, run_stop};
-use daide_tools::faults::{CLEAN, FAULT, NOT_RELAYED, USAGE, tell};
+use daide_tools::faults::{CLEAN, FAULT, NOT_RELAYED, USAGE, print_fault};
 use daide_tools::framing::run_frame;
 use daide_tools::judging::run_settings;
 use daide_tools::showing::run_show;
@@ -34,7 +34,7 @@ fn report_usage<S: AsStr, O: Write, E: Write>(
     ensures usage { IfOk result (UsageEnds (kind_of why) (O.contents output.old) (O.contents output.new)) }
 {
     if why.kind() == ErrorKind::OutOfMemory {
-        return tell(errors, "out of memory", FAULT);
+        return print_fault(errors, "out of memory", FAULT);
     }
     if why.use_stderr() {
         write!(errors, "{why}")?;
@@ -43,7 +43,7 @@ fn report_usage<S: AsStr, O: Write, E: Write>(
     }
     match write!(output, "{why}") {
         Ok(()) => Ok(CLEAN),
-        Err(_) => tell(errors, "output could not be written", FAULT),
+        Err(_) => print_fault(errors, "output could not be written", FAULT),
     }
 }
 
@@ -66,9 +66,9 @@ fn carry_out<R: AllocGlobal + Files + Clock + Net, I: Read, O: Sink, E: Write>(
         Order::Frame(order) => run_frame(rt, order, input, output, errors),
         Order::Settings(order) => run_settings(rt, order, input, output, errors),
         Order::Run(order) => run(rt, order, output, errors),
-        Order::BadSide => tell(errors, "bad side; it must be bot or server", USAGE),
+        Order::BadSide => print_fault(errors, "bad side; it must be bot or server", USAGE),
         Order::BadLevel => {
-            tell(
+            print_fault(
                 errors,
                 "bad level; it must be 0, 10, 20, 30, 40, 50 or 60",
                 USAGE,
@@ -77,14 +77,22 @@ fn carry_out<R: AllocGlobal + Files + Clock + Net, I: Read, O: Sink, E: Write>(
         Order::Status(order) => run_status(rt, order, output, errors),
         Order::Stop(order) => run_stop(rt, order, errors),
         Order::BadFormat => {
-            tell(
+            print_fault(
                 errors,
                 "bad format; it must be table, json or prometheus",
                 USAGE,
             )
         }
-        Order::BadMessageFormat => tell(errors, "bad format; it must be text or json", USAGE),
-        Order::BadTimeout => tell(errors, "bad timeout; it must be 1 to 86400 seconds", USAGE),
+        Order::BadMessageFormat => print_fault(
+            errors,
+            "bad format; it must be text or json",
+            USAGE,
+        ),
+        Order::BadTimeout => print_fault(
+            errors,
+            "bad timeout; it must be 1 to 86400 seconds",
+            USAGE,
+        ),
     }
 }
 

@@ -8,7 +8,7 @@ use crate::causes::end_failed;
 use daide_command_line::arguments::RunOrder;
 use daide_log::Sink;
 use daide_run::{RunFault, run_text};
-use daide_tools::faults::{CLEAN, FAULT, tell};
+use daide_tools::faults::{CLEAN, FAULT, print_fault};
 use daide_tools::settings_file::text_at;
 use std::io;
 use std::io::Write;
@@ -42,7 +42,7 @@ pub(crate) fn run<R: AllocGlobal + Files + Clock + Net, O: Sink, E: Write>(
 {
     let text = match text_at(rt, order.settings) {
         Ok(text) => text,
-        Err(fault) => return tell(errors, fault, FAULT),
+        Err(fault) => return print_fault(errors, fault, FAULT),
     };
     match run_ordered(rt, text.as_str(), order, output, errors) {
         Ok(()) => Ok(CLEAN),

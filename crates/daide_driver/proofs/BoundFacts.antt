@@ -32,8 +32,8 @@ frames_that_wait g bounds = bounds.further
 -- with this much room, the one pull uses a buffer of this many bytes
 abbrev IsPulledInto : ℕ → ℕ → Type 0
 IsPulledInto room buffer =
-    (side : Side) (old new : SessionView) (answers : List PortCall) (pull : FillsRoom side old answers new) →
-    room_of old side ≡ room → answers ≡ Pulled side buffer pull.pull pull.bytes ∷ []
+    (side : Side) (old new : SessionView) (trace : List PortCall) (pull : FillsRoom side old trace new) →
+    room_of old side ≡ room → trace ≡ Pulled side buffer pull.pull pull.bytes ∷ []
 
 -- as long as the room, and at most 512
 pulled_bytes : IsPulledInto 1 1 × IsPulledInto 4 4 × IsPulledInto 256 256 × IsPulledInto 511 511 × IsPulledInto 512 512
@@ -41,7 +41,7 @@ pulled_bytes : IsPulledInto 1 1 × IsPulledInto 4 4 × IsPulledInto 256 256 × I
 pulled_bytes = (buffer, buffer, buffer, buffer, buffer, buffer, buffer)
   where
     buffer : {room : ℕ} → IsPulledInto room (min room 512)
-    buffer side old new answers pull is = pull.asked ∙ ap (λ n. Pulled side (min n 512) pull.pull pull.bytes ∷ []) is
+    buffer side old new trace pull is = pull.asked ∙ ap (λ n. Pulled side (min n 512) pull.pull pull.bytes ∷ []) is
 
 -- over all bytes received, two look-ups a byte: eight for four bytes from the bot, and none for the server
 work_of_bytes : (limits : Limits) (g : SessionView) →

@@ -35,7 +35,7 @@ due g side = length (sent_bytes (queued g side))
 
 -- no byte is lost
 abbrev Keeps : Side → SessionView → List PortCall → SessionView → Type 0
-Keeps side old answers new = due old side ≤ length (taken side answers) + due new side
+Keeps side old trace new = due old side ≤ length (taken side trace) + due new side
 
 -- if neither of two traces loses a byte, the joined trace loses none
 then_keeps : (side : Side) (a b : List PortCall) (old mid new : SessionView) → Keeps side old a mid →
@@ -66,9 +66,9 @@ more_due side old new more e =
 goes_due : (side : Side) (events : List Event) (old new : SessionView) → AdvancesByEvents old events new → due old side ≤ due new side
 goes_due side events old new g = more_due side old new (sent_to side g.1.effects) (g.1.kept side)
 
-clock_keeps : (side : Side) (old : SessionView) (answers : List PortCall) (new : SessionView) → AsksClock old answers new →
-    Keeps side old answers new
-clock_keeps side old answers new h = subst (λ (a : List PortCall). Keeps side old a new) (sym h.1) (go h.0 h.2)
+clock_keeps : (side : Side) (old : SessionView) (trace : List PortCall) (new : SessionView) → AsksClock old trace new →
+    Keeps side old trace new
+clock_keeps side old trace new h = subst (λ (a : List PortCall). Keeps side old a new) (sym h.1) (go h.0 h.2)
   where
     go : (event : ClockEvent) → Hears event old new → Keeps side old (Clock event ∷ []) new
     go NoEvent k = none_taken (due old side) (due new side) (same_due side old new k)
@@ -81,13 +81,13 @@ gets_due side from (Got n) bytes old new g = goes_due side _ old new g.0
 gets_due side from Idle bytes old new g = same_due side old new g
 gets_due side from Ended bytes old new g = goes_due side _ old new g.0
 
-pull_keeps : (side from : Side) (old : SessionView) (answers : List PortCall) (new : SessionView) →
-    Pulls from old answers new →
-    Keeps side old answers new
-pull_keeps side from old answers new (inl h) =
+pull_keeps : (side from : Side) (old : SessionView) (trace : List PortCall) (new : SessionView) →
+    Pulls from old trace new →
+    Keeps side old trace new
+pull_keeps side from old trace new (inl h) =
     subst (λ (a : List PortCall). Keeps side old a new) (sym h.1)
     (none_taken (due old side) (due new side) (same_due side old new h.2))
-pull_keeps side from old answers new (inr h) =
+pull_keeps side from old trace new (inr h) =
     subst (λ (a : List PortCall). Keeps side old a new) (sym h.asked)
     (none_taken (due old side) (due new side) (gets_due side from h.pull h.bytes old new h.gets))
 
@@ -105,18 +105,18 @@ beside_hands Bot old new bytes Failed k =
 beside_hands Server old new bytes Failed k =
     none_taken (due old Server) (due new Server) (more_due Server old new (sent_to Server k.0.effects) k.0.other_wire)
 
-put_beside : (side : Side) (old : SessionView) (answers : List PortCall) (new : SessionView) →
-    Puts (other side) old answers new → Keeps side old answers new
-put_beside side old answers new (inl h) =
+put_beside : (side : Side) (old : SessionView) (trace : List PortCall) (new : SessionView) →
+    Puts (other side) old trace new → Keeps side old trace new
+put_beside side old trace new (inl h) =
     subst (λ (a : List PortCall). Keeps side old a new) (sym h.1)
     (none_taken (due old side) (due new side) (same_due side old new h.2))
-put_beside side old answers new (inr h) =
+put_beside side old trace new (inr h) =
     subst (λ (a : List PortCall). Keeps side old a new) (sym h.asked)
     (beside_hands side old new (front_of old (other side)) h.put h.hands)
 
 -- a put to this wire sends something if something is queued
 abbrev Gains : Side → SessionView → List PortCall → SessionView → Type 0
-Gains side old answers new = 0 < due old side → 0 < length (taken side answers)
+Gains side old trace new = 0 < due old side → 0 < length (taken side trace)
 
 pub own_taken : (side : Side) (bytes : List ℕ) (n : ℕ) → n ≤ length bytes →
     length (taken side (Offered side bytes (Took n) ∷ [])) ≡ n
@@ -133,14 +133,14 @@ own_hands side old new bytes (Took n) within k some =
     )
 own_hands side old new bytes Failed within k some = absurd (some (same_self side))
 
-put_own : (side : Side) (old : SessionView) (answers : List PortCall) (new : SessionView) → Puts side old answers new →
-    EachTakesSome side answers → Keeps side old answers new × Gains side old answers new
-put_own side old answers new (inl h) some = (
+put_own : (side : Side) (old : SessionView) (trace : List PortCall) (new : SessionView) → Puts side old trace new →
+    EachTakesSome side trace → Keeps side old trace new × Gains side old trace new
+put_own side old trace new (inl h) some = (
   subst (λ (a : List PortCall). Keeps side old a new) (sym h.1)
       (none_taken (due old side) (due new side) (same_due side old new h.2)),
   λ d. absurd (omega (arith, d, ap (λ (frames : List Sent). length (sent_bytes frames)) h.0)),
 )
-put_own side old answers new (inr h) some =
+put_own side old trace new (inr h) some =
     let front = front_of old side in
     let each = subst (EachTakesSome side) h.asked some in
     let own = own_hands side old new front h.put h.within h.hands each.0 in (
@@ -235,11 +235,11 @@ pub due_go : (side : Side) (turns : List (List PortCall)) (old new : SessionView
     EachTurnTakesSome side turns → min (length turns) (length (sent_bytes (queued old side))) ≤ length (taken_in
     side turns)
 due_go side [] old new are some = omega arith
-due_go side (answers ∷ turns) old new are some =
-    let kept = turn_keeps side old answers are.0 are.1 some.0 in
-    let gains = turn_gains side old answers are.0 are.1 some.0 in
+due_go side (trace ∷ turns) old new are some =
+    let kept = turn_keeps side old trace are.0 are.1 some.0 in
+    let gains = turn_gains side old trace are.0 are.1 some.0 in
     let later = due_go side turns are.0 new are.2 some.1 in
-    let all = length-append (taken side answers) (taken_in side turns) in
+    let all = length-append (taken side trace) (taken_in side turns) in
     elim (cases_lt 0 (due old side)) [
       | inl more ↦ (let gain = gains more in omega (arith, kept, gain, later, all))
       | inr none ↦ omega (arith, none)

@@ -131,9 +131,9 @@ AllLeave side K = (o : SessionView) (a : List PortCall) (n : SessionView) (k siz
 
 -- the wire accepts the rest, or at least one part of it
 abbrev Advances : Side → ℕ → ℕ → List PortCall → SessionView → Type 0
-Advances side k size answers new =
-    (size ≤ length (taken side answers))
-    ⊎ ((fewer : ℕ) × (less : ℕ) × (k ≡ suc fewer) × (size ≤ length (taken side answers) + less)
+Advances side k size trace new =
+    (size ≤ length (taken side trace))
+    ⊎ ((fewer : ℕ) × (less : ℕ) × (k ≡ suc fewer) × (size ≤ length (taken side trace) + less)
     × HasLeft side fewer less new)
 
 abbrev AllAdvance : Side → (SessionView → List PortCall → SessionView → Type 0) → Type 0
@@ -141,7 +141,7 @@ AllAdvance side K = (o : SessionView) (a : List PortCall) (n : SessionView) (k s
     HasLeft side k size o → Advances side k size a n
 
 clock_leaves : (side : Side) → AllLeave side AsksClock
-clock_leaves side old answers new k size h left = go h.0 h.2
+clock_leaves side old trace new k size h left = go h.0 h.2
   where
     go : (event : ClockEvent) → Hears event old new → HasLeft side k size new
     go NoEvent heard = same_left side k size old new heard left
@@ -159,8 +159,8 @@ gets_leaves side from Ended bytes old new k size g left =
     kept_left side k size old new (sent_to side g.0.1.effects) (g.0.1.kept side) (g.1 side) left
 
 pull_leaves : (side from : Side) → AllLeave side (Pulls from)
-pull_leaves side from old answers new k size (inl h) left = same_left side k size old new h.2 left
-pull_leaves side from old answers new k size (inr h) left =
+pull_leaves side from old trace new k size (inl h) left = same_left side k size old new h.2 left
+pull_leaves side from old trace new k size (inr h) left =
     gets_leaves side from h.pull h.bytes old new k size h.gets left
 
 hands_leaves : (side : Side) (put : Put) (old new : SessionView) (k size : ℕ) → Hands (other side) put old new →
@@ -175,8 +175,8 @@ hands_leaves Server Failed old new k size h left =
     kept_left Server k size old new (sent_to Server h.0.effects) h.0.other_wire h.1 left
 
 beside_leaves : (side : Side) → AllLeave side (Puts (other side))
-beside_leaves side old answers new k size (inl h) left = same_left side k size old new h.2 left
-beside_leaves side old answers new k size (inr h) left = hands_leaves side h.put old new k size h.hands left
+beside_leaves side old trace new k size (inl h) left = same_left side k size old new h.2 left
+beside_leaves side old trace new k size (inr h) left = hands_leaves side h.put old new k size h.hands left
 
 -- this wire accepts the whole front
 own_hands : (side : Side) (put : Put) (old new : SessionView) (k size : ℕ) → 0 < length (front_of old side) →
@@ -239,12 +239,12 @@ own_hands side (Took n) old new k size some h all left = go (cases_lt n (length 
         )
 
 own_advances : (side : Side) → AllAdvance side (Puts side)
-own_advances side old answers new k size (inl h) all left =
+own_advances side old trace new k size (inl h) all left =
     absurd (some_waits left.frame left.frames (sym left.waits ∙ h.0))
   where
     some_waits : (frame : Sent) (frames : List Sent) → ◌≡◌ {A = List Sent} (frame ∷ frames) [] → ⊥
     some_waits frame frames e = absurd (cc)
-own_advances side old answers new k size (inr h) all left =
+own_advances side old trace new k size (inr h) all left =
     let each = subst (EachTakesAll side) h.asked all in
     subst (λ (a : List PortCall). Advances side k size a new) (sym h.asked)
     (own_hands side h.put old new k size h.filled h.hands each.0 left)
@@ -314,15 +314,15 @@ part_by_part : (side : Side) (turns : List (List PortCall)) (old new : SessionVi
 part_by_part side [] old new k size are all left enough =
     let none = none_left (parts_of old side) (let few = left.few in omega (arith, few, enough)) in
     omega (arith, left.size, ap length (sym left.whole ∙ none))
-part_by_part side (answers ∷ turns) old new k size are all left enough =
-    go (turn_advances side old answers are.0 k size are.1 all.0 left)
+part_by_part side (trace ∷ turns) old new k size are all left enough =
+    go (turn_advances side old trace are.0 k size are.1 all.0 left)
     (λ j still rest few. part_by_part side turns are.0 new j still are.2 all.1 rest few)
   where
-    sum : length (taken side answers ++ taken_in side turns) ≡ length (taken side answers) + length (taken_in side turns)
-    sum = length-append (taken side answers) (taken_in side turns)
+    sum : length (taken side trace ++ taken_in side turns) ≡ length (taken side trace) + length (taken_in side turns)
+    sum = length-append (taken side trace) (taken_in side turns)
 
-    go : Advances side k size answers are.0 → ((j still : ℕ) → HasLeft side j still are.0 → j ≤ length turns →
-        still ≤ length (taken_in side turns)) → size ≤ length (taken side answers ++ taken_in side turns)
+    go : Advances side k size trace are.0 → ((j still : ℕ) → HasLeft side j still are.0 → j ≤ length turns →
+        still ≤ length (taken_in side turns)) → size ≤ length (taken side trace ++ taken_in side turns)
     go (inl done) on = omega (arith, done, sum)
     go (inr p) on =
         let later = on p.0 p.1 p.4 (let one = p.2 in omega (arith, one, enough)) in

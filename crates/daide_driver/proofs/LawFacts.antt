@@ -35,7 +35,7 @@ opens : NewSessionsAreReachable → (limits : Limits) → RefinesRun (untouched 
 opens law limits = law limits (untouched limits) (record {
   state = refl;
   quiet = on_both (λ (side : Side). queued (untouched limits) side ≡ []) refl refl;
-  held = on_both (λ (side : Side). (holding (untouched limits) side).held ≡ []) refl refl;
+  frame_bytes = on_both (λ (side : Side). (holding (untouched limits) side).frame_bytes ≡ []) refl refl;
   unasked = on_both (λ (side : Side). (holding (untouched limits) side).total ≡ 0) refl refl;
   unlooked = on_both (λ (side : Side). (holding (untouched limits) side).looked_at ≡ 0) refl refl;
   uncounted = refl;
@@ -50,13 +50,13 @@ headlines transition law a b c d first second third = law a c d (law a b c first
 -- ---- the queued bytes
 
 -- at least one byte is queued, and one turn is made
-byte_goes : DueBytesGo → (old new : SessionView) (answers : List PortCall) → AreTurns old (answers ∷ []) new →
-    EachTurnTakesSome Server (answers ∷ []) → (n : ℕ) → length (sent_bytes (queued old Server)) ≡ n + 1 →
-    0 < length (taken_in Server (answers ∷ []))
-byte_goes law old new answers turns some n waits =
-    let gone : min 1 (n + 1) ≤ length (taken_in Server (answers ∷ [])) =
-    subst (λ (k : ℕ). min 1 k ≤ length (taken_in Server (answers ∷ []))) waits
-    (law Server (answers ∷ []) old new turns some) in
+byte_goes : DueBytesGo → (old new : SessionView) (trace : List PortCall) → AreTurns old (trace ∷ []) new →
+    EachTurnTakesSome Server (trace ∷ []) → (n : ℕ) → length (sent_bytes (queued old Server)) ≡ n + 1 →
+    0 < length (taken_in Server (trace ∷ []))
+byte_goes law old new trace turns some n waits =
+    let gone : min 1 (n + 1) ≤ length (taken_in Server (trace ∷ [])) =
+    subst (λ (k : ℕ). min 1 k ≤ length (taken_in Server (trace ∷ []))) waits
+    (law Server (trace ∷ []) old new turns some) in
     omega (arith, gone)
 
 -- six turns are enough for an unsent frame

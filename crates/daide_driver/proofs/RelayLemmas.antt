@@ -16,7 +16,7 @@ use Rattle.daide_driver.proofs.Standing.{headline_of, totals_of}
 
 -- n turns, and the session is not closed after them
 abbrev pub StaysOpen : ℕ → SessionView → List PortCall → SessionView → Type 0
-StaysOpen n old answers new = Turns n old answers new × (is_closed new ≡ false)
+StaysOpen n old trace new = Turns n old trace new × (is_closed new ≡ false)
 
 -- turns are a part of a run
 turns_relay : (n : ℕ) (a : SessionView) (xs : List PortCall) (b : SessionView) → Turns n a xs b → RefinesRun a xs b

@@ -77,13 +77,13 @@ module _ {X P : Type 0} (f : X → SessionView × P) (limits : Limits) (items : 
   free_item None e = absurd (cc)
   free_item (Some Free) e = refl
   free_item (Some Kept) e = absurd (cc)
-  free_item (Some (Held held)) e = absurd (cc)
+  free_item (Some (Held item)) e = absurd (cc)
 
   kept_item : (x : Option (SlabPlace X)) → option_map (held_as f) x ≡ Some Kept → x ≡ Some Kept
   kept_item None e = absurd (cc)
   kept_item (Some Free) e = absurd (cc)
   kept_item (Some Kept) e = refl
-  kept_item (Some (Held held)) e = absurd (cc)
+  kept_item (Some (Held item)) e = absurd (cc)
 
   pub item_kept : (i : ℕ) → IsAt now i Kept → slice_get items i ≡ Some Kept
   item_kept i at = kept_item (slice_get items i) (seen i ∙ at)
@@ -155,7 +155,7 @@ module _ {X P : Type 0} (f : X → SessionView × P) (limits : Limits) (items : 
       same : (x : SlabPlace X) → is_kept (held_as f x) ≡ is_kept x
       same Free = refl
       same Kept = refl
-      same (Held held) = refl
+      same (Held item) = refl
 
   pub held_seen : (i : ℕ) (x : Option (SlabPlace X)) → slice_get items i ≡ x → is_so is_held x ≡ is_at is_held now.places i
   held_seen = tested is_held is_held same
@@ -171,7 +171,7 @@ module _ {X P : Type 0} (f : X → SessionView × P) (limits : Limits) (items : 
       free : (x : SlabPlace X) → is_free_place (held_as f x) ≡ is_free_place x
       free Free = refl
       free Kept = refl
-      free (Held held) = refl
+      free (Held item) = refl
 
       same : (xs : List (SlabPlace X)) → list_all is_free_place (map (held_as f) xs) ≡ list_all is_free_place xs
       same [] = refl

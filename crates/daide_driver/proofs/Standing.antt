@@ -105,8 +105,8 @@ new_stands limits g n = record {
     limits_set = ap (λ (s : SessionState). s.limits) n.state
 
     work : Works (untouched limits) [] g
-    work Bot = paid_idle Bot (untouched limits) g limits_set (n.unasked Bot) (inr (n.held Bot))
-    work Server = paid_idle Server (untouched limits) g limits_set (n.unasked Server) (inr (n.held Server))
+    work Bot = paid_idle Bot (untouched limits) g limits_set (n.unasked Bot) (inr (n.frame_bytes Bot))
+    work Server = paid_idle Server (untouched limits) g limits_set (n.unasked Server) (inr (n.frame_bytes Server))
 
 -- the whole effect of a turn's trace
 pub one_turn : (a : SessionView) (xs : List PortCall) (b : SessionView) → IsWithinBounds b → WorkingTurn a xs b →

@@ -12,7 +12,7 @@ use Rattle.daide_driver.specs.Turn.{Turn}
 -- turns in a row, each with its own trace
 abbrev pub AreTurns : SessionView → List (List PortCall) → SessionView → Type 0
 AreTurns old [] new = new ≡ old
-AreTurns old (answers ∷ turns) new = (mid : SessionView) × Turn old answers mid × AreTurns mid turns new
+AreTurns old (trace ∷ turns) new = (mid : SessionView) × Turn old trace mid × AreTurns mid turns new
 
 -- if this is a put to the wire of this side, the wire accepts at least one byte
 abbrev pub TakesSome : Side → PortCall → Type 0
@@ -25,16 +25,16 @@ TakesSome side (Offered to bytes Failed) = same_side side to ≡ true → ⊥
 -- each put of this trace, and of these turns
 abbrev pub EachTakesSome : Side → List PortCall → Type 0
 EachTakesSome side [] = Unit {0}
-EachTakesSome side (answer ∷ answers) = TakesSome side answer × EachTakesSome side answers
+EachTakesSome side (call ∷ trace) = TakesSome side call × EachTakesSome side trace
 
 abbrev pub EachTurnTakesSome : Side → List (List PortCall) → Type 0
 EachTurnTakesSome side [] = Unit {0}
-EachTurnTakesSome side (answers ∷ turns) = EachTakesSome side answers × EachTurnTakesSome side turns
+EachTurnTakesSome side (trace ∷ turns) = EachTakesSome side trace × EachTurnTakesSome side turns
 
 -- the bytes that the wire of this side accepted in the turns, in order
 abbrev pub taken_in : Side → List (List PortCall) → List ℕ
 taken_in side [] = []
-taken_in side (answers ∷ turns) = taken side answers ++ taken_in side turns
+taken_in side (trace ∷ turns) = taken side trace ++ taken_in side turns
 
 -- While a wire accepts at least one byte a put, it accepts as many bytes as there are turns, or all that were queued
 -- before them. This holds whatever else happens in the turns.
@@ -53,11 +53,11 @@ TakesAll side (Offered to bytes Failed) = same_side side to ≡ true → ⊥
 
 abbrev pub EachTakesAll : Side → List PortCall → Type 0
 EachTakesAll side [] = Unit {0}
-EachTakesAll side (answer ∷ answers) = TakesAll side answer × EachTakesAll side answers
+EachTakesAll side (call ∷ trace) = TakesAll side call × EachTakesAll side trace
 
 abbrev pub EachTurnTakesAll : Side → List (List PortCall) → Type 0
 EachTurnTakesAll side [] = Unit {0}
-EachTurnTakesAll side (answers ∷ turns) = EachTakesAll side answers × EachTurnTakesAll side turns
+EachTurnTakesAll side (trace ∷ turns) = EachTakesAll side trace × EachTurnTakesAll side turns
 
 -- While a wire accepts all that it is offered, an unsent frame is sent after six turns, whatever else happens in them.
 -- An answer is sent in at most six parts.

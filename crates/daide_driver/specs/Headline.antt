@@ -16,7 +16,7 @@ use Rattle.daide_driver.specs.Record.{DeliversOutput}
 
 -- the held state of an untouched side
 abbrev pub nothing_held : Holding
-nothing_held = record { held = []; entries = 0; total = 0; total_before = 0; looked_at = 0 }
+nothing_held = record { frame_bytes = []; entries = 0; total = 0; total_before = 0; looked_at = 0 }
 
 -- a session that has received nothing
 abbrev pub untouched : Limits → SessionView

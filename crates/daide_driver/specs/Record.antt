@@ -16,11 +16,11 @@ Moved true over waited answers took waits =
 
 -- By this trace the session goes from old to new. Its state is the machine's after the events of the trace. The bytes
 -- that each wire accepted, with those that are queued, are the machine's output.
-pub record DeliversOutput (old : SessionView) (answers : List PortCall) (new : SessionView) : Type 0 where
+pub record DeliversOutput (old : SessionView) (trace : List PortCall) (new : SessionView) : Type 0 where
   pub effects : List Effect
-  pub run : Runs old.state (events_of answers) effects new.state
-  pub wires : (side : Side) → Moved (has_failed side answers) (is_over new.state.phase) (sent_bytes (queued old side))
-      (sent_bytes (sent_to side effects)) (taken side answers) (sent_bytes (queued new side))
+  pub run : Runs old.state (events_of trace) effects new.state
+  pub wires : (side : Side) → Moved (has_failed side trace) (is_over new.state.phase) (sent_bytes (queued old side))
+      (sent_bytes (sent_to side effects)) (taken side trace) (sent_bytes (queued new side))
 
 -- ---- a call
 

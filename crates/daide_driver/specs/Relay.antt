@@ -11,15 +11,15 @@ use Rattle.daide_driver.specs.declared.relaying.RelayEnd.TheVariants.{Closed, Tu
 -- n turns, each of a session that is not closed; after each one the session is within its bounds, and the next turn
 -- starts from its fronts
 abbrev pub Turns : ℕ → SessionView → List PortCall → SessionView → Type 0
-Turns zero old answers new = (answers ≡ []) × (new ≡ old)
-Turns (suc n) old answers new =
+Turns zero old trace new = (trace ≡ []) × (new ≡ old)
+Turns (suc n) old trace new =
     (mid : SessionView) × (first : List PortCall) × (second : List PortCall)
-    × (answers ≡ first ++ second) × Turns n old first mid × (is_closed mid ≡ false) × WholeTurn mid second new
+    × (trace ≡ first ++ second) × Turns n old first mid × (is_closed mid ≡ false) × WholeTurn mid second new
 
 -- all turns were made if the relay reports them as spent; otherwise at most all
 abbrev pub MakesTurns : RelayEnd → ℕ → SessionView → List PortCall → SessionView → Type 0
-MakesTurns Closed turns old answers new = (n : ℕ) × (n ≤ turns) × Turns n old answers new
-MakesTurns TurnsSpent turns old answers new = Turns turns old answers new
+MakesTurns Closed turns old trace new = (n : ℕ) × (n ≤ turns) × Turns n old trace new
+MakesTurns TurnsSpent turns old trace new = Turns turns old trace new
 
 abbrev pub is_spent : RelayEnd → Bool
 is_spent Closed = false

@@ -10,12 +10,12 @@ use Rattle.daide_driver.specs.declared.place.SlabPlace.TheVariants.{Free, Kept, 
 abbrev pub is_free_place : {T : Type 0} → SlabPlace T → Bool
 is_free_place Free = true
 is_free_place Kept = false
-is_free_place (Held held) = false
+is_free_place (Held item) = false
 
 abbrev pub is_kept : {T : Type 0} → SlabPlace T → Bool
 is_kept Free = false
 is_kept Kept = true
-is_kept (Held held) = false
+is_kept (Held item) = false
 
 abbrev pub is_held : {T : Type 0} → SlabPlace T → Bool
 is_held Free = false
@@ -74,7 +74,7 @@ abbrev pub with_ports_in : {P : Type 0} → SlabView P → ℕ → Option (SlabP
 with_ports_in slab place None ports = slab
 with_ports_in slab place (Some Free) ports = slab
 with_ports_in slab place (Some Kept) ports = slab
-with_ports_in slab place (Some (Held held)) ports = with_place slab place (Held (held.0, ports))
+with_ports_in slab place (Some (Held item)) ports = with_place slab place (Held (item.0, ports))
 
 abbrev pub with_ports_at_place : {P : Type 0} → SlabView P → ℕ → P → SlabView P
 with_ports_at_place slab place ports = with_ports_in slab place (slice_get slab.places place) ports

@@ -14,22 +14,22 @@ use Rattle.daide_driver.specs.Headline.{untouched}
 
 -- how many bytes were received from a side
 abbrev pub came : Side → List PortCall → ℕ
-came side answers = length (bytes_from side (events_of answers))
+came side trace = length (bytes_from side (events_of trace))
 
 -- each side's table made at most two look-ups for each byte received from that side
 abbrev pub Works : SessionView → List PortCall → SessionView → Type 0
-Works old answers new = (side : Side) → IsPaidBy (came side answers) side old new
+Works old trace new = (side : Side) → IsPaidBy (came side trace) side old new
 
 -- a part of a run of this kind, with at most that many look-ups
 abbrev pub Working : (SessionView → List PortCall → SessionView → Type 0) → SessionView → List PortCall → SessionView → Type 0
-Working Kind old answers new = Kind old answers new × Works old answers new
+Working Kind old trace new = Kind old trace new × Works old trace new
 
 -- By this trace the session goes from old to new: it delivers the machine's output, counts the machine's moves by side,
 -- and its tables make at most two look-ups for a byte received.
-pub record RefinesRun (old : SessionView) (answers : List PortCall) (new : SessionView) : Type 0 where
-  pub sends : DeliversOutput old answers new
+pub record RefinesRun (old : SessionView) (trace : List PortCall) (new : SessionView) : Type 0 where
+  pub sends : DeliversOutput old trace new
   pub counts : new.account ≡ account_after old sends.effects
-  pub work : Works old answers new
+  pub work : Works old trace new
 
 -- ---- all traces since a session was created
 

@@ -26,9 +26,9 @@ most_pulled = 512
 -- one trace, and then another
 abbrev pub Then : (SessionView → List PortCall → SessionView → Type 0) → (SessionView → List PortCall → SessionView → Type 0) →
     SessionView → List PortCall → SessionView → Type 0
-Then First Second old answers new =
+Then First Second old trace new =
     (mid : SessionView) × (first : List PortCall) × (second : List PortCall)
-    × (answers ≡ first ++ second) × First old first mid × Second mid second new
+    × (trace ≡ first ++ second) × First old first mid × Second mid second new
 
 -- the session handles these events, with any note
 abbrev pub AdvancesByEvents : SessionView → List Event → SessionView → Type 0
@@ -48,7 +48,7 @@ Hears StopIsRequested old new = AdvancesByEvents old (OperatorStops ∷ []) new 
 
 -- the clock is read once
 abbrev pub AsksClock : SessionView → List PortCall → SessionView → Type 0
-AsksClock old answers new = (event : ClockEvent) × (answers ≡ Clock event ∷ []) × Hears event old new
+AsksClock old trace new = (event : ClockEvent) × (trace ≡ Clock event ∷ []) × Hears event old new
 
 -- ---- the puts
 
@@ -66,19 +66,19 @@ Hands side Failed old new = Lost old side new × KeepsFront old (other side) new
 
 -- the queue is empty, and no put is made
 abbrev pub HasNone : Side → SessionView → List PortCall → SessionView → Type 0
-HasNone side old answers new = (queued old side ≡ []) × (answers ≡ []) × (new ≡ old)
+HasNone side old trace new = (queued old side ≡ []) × (trace ≡ []) × (new ≡ old)
 
 -- the queue is not empty, and one put of the whole front is made
-pub record HandsFront (side : Side) (old : SessionView) (answers : List PortCall) (new : SessionView) : Type 0 where
+pub record HandsFront (side : Side) (old : SessionView) (trace : List PortCall) (new : SessionView) : Type 0 where
   pub put : Put
   pub filled : 0 < length (front_of old side)
   pub front : IsFrontOf (front_of old side) (queued old side)
-  pub asked : answers ≡ Offered side (front_of old side) put ∷ []
+  pub asked : trace ≡ Offered side (front_of old side) put ∷ []
   pub within : IsPutWithin put (length (front_of old side))
   pub hands : Hands side put old new
 
 abbrev pub Puts : Side → SessionView → List PortCall → SessionView → Type 0
-Puts side old answers new = HasNone side old answers new ⊎ HandsFront side old answers new
+Puts side old trace new = HasNone side old trace new ⊎ HandsFront side old trace new
 
 -- ---- the pulls
 
@@ -90,19 +90,19 @@ Gets side Ended bytes old new = AdvancesByEvents old (Ends side ∷ []) new × K
 
 -- there is no room, and no pull is made
 abbrev pub HasNoRoom : Side → SessionView → List PortCall → SessionView → Type 0
-HasNoRoom side old answers new = (room_of old side ≡ 0) × (answers ≡ []) × (new ≡ old)
+HasNoRoom side old trace new = (room_of old side ≡ 0) × (trace ≡ []) × (new ≡ old)
 
 -- there is room, and one pull is made into a buffer as long as the room, but of at most `most_pulled` bytes
-pub record FillsRoom (side : Side) (old : SessionView) (answers : List PortCall) (new : SessionView) : Type 0 where
+pub record FillsRoom (side : Side) (old : SessionView) (trace : List PortCall) (new : SessionView) : Type 0 where
   pub pull : Pull
   pub bytes : List ℕ
   pub room : 0 < room_of old side
-  pub asked : answers ≡ Pulled side (min (room_of old side) most_pulled) pull bytes ∷ []
+  pub asked : trace ≡ Pulled side (min (room_of old side) most_pulled) pull bytes ∷ []
   pub counted : length bytes ≡ pulled_len pull
   pub gets : Gets side pull bytes old new
 
 abbrev pub Pulls : Side → SessionView → List PortCall → SessionView → Type 0
-Pulls side old answers new = HasNoRoom side old answers new ⊎ FillsRoom side old answers new
+Pulls side old trace new = HasNoRoom side old trace new ⊎ FillsRoom side old trace new
 
 -- ---- the turn
 

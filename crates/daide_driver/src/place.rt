@@ -42,25 +42,25 @@ impl<T> SlabPlace<T> {
 
     /// Returns what it has.
     #[inline(always)]
-    pub fn held(&self) -> &T
+    pub fn item(&self) -> &T
         requires { is_held self.now ≡ true }
         ensures { self.now ≡ SlabPlace.Held result.now }
     {
         match self {
-            SlabPlace::Held(held) => held,
+            SlabPlace::Held(item) => item,
             _ => unreachable!(),
         }
     }
 
     /// Lends what it has. When the loan ends, it has that as it was left.
     #[inline(always)]
-    pub fn held_mut(&mut self) -> &mut T
+    pub fn item_mut(&mut self) -> &mut T
         requires { is_held self.old ≡ true }
         ensures* writes_back { sem 𝓛 (Lends (the_row T.row) T.row self.entry result SlabPlace.Held) }
         ensures value { self.old ≡ SlabPlace.Held result.now }
     {
         match self {
-            SlabPlace::Held(held) => held,
+            SlabPlace::Held(item) => item,
             _ => unreachable!(),
         }
     }

@@ -181,18 +181,18 @@ impl<P: Ports, A: Allocator + Copy> Slab<P, A> {
     #[inline(always)]
     pub fn session(&self, place: usize) -> &Session<A>
         requires { is_at is_held self.now.places place ≡ true }
-        ensures { IfHeldAt self.now.places place (λ held. result.now ≡ held.0) }
+        ensures { IfHeldAt self.now.places place (λ item. result.now ≡ item.0) }
     {
-        &self.places[place].held().session
+        &self.places[place].item().session
     }
 
     /// Returns the ports of the session at a place.
     #[inline(always)]
     pub fn ports(&self, place: usize) -> &P
         requires { is_at is_held self.now.places place ≡ true }
-        ensures { IfHeldAt self.now.places place (λ held. result.now ≡ held.1) }
+        ensures { IfHeldAt self.now.places place (λ item. result.now ≡ item.1) }
     {
-        &self.places[place].held().ports
+        &self.places[place].item().ports
     }
 
     /// Lends the ports of the session at a place, to begin a turn with them.
@@ -204,9 +204,9 @@ impl<P: Ports, A: Allocator + Copy> Slab<P, A> {
         requires { is_at is_held self.old.places place ≡ true }
         ensures* writes_back { sem 𝓛 (Lends (the_row P.row A.row P.Ports A.Allocator) P.row self.entry result
             (with_ports_at_place self.old place)) }
-        ensures value { IfHeldAt self.old.places place (λ held. result.now ≡ held.1) }
+        ensures value { IfHeldAt self.old.places place (λ item. result.now ≡ item.1) }
     {
-        let lent = self.places[place].held_mut();
+        let lent = self.places[place].item_mut();
         &mut lent.ports
     }
 
@@ -216,7 +216,7 @@ impl<P: Ports, A: Allocator + Copy> Slab<P, A> {
         requires { is_at is_held self.old.places place ≡ true }
         ensures { ChangesAt (IsTurned P.transition) self.old place self.new }
     {
-        self.places[place].held_mut().turn(&mut self.buffer);
+        self.places[place].item_mut().turn(&mut self.buffer);
     }
 
     /// Takes out the closed session at a place, and frees the place.
@@ -226,11 +226,11 @@ impl<P: Ports, A: Allocator + Copy> Slab<P, A> {
     #[inline(never)]
     pub fn remove(&mut self, place: usize) -> Removed<P>
         requires held { is_at is_held self.old.places place ≡ true }
-        requires closed { IfHeldAt self.old.places place (λ held. is_closed held.0 ≡ true) }
+        requires closed { IfHeldAt self.old.places place (λ item. is_closed item.0 ≡ true) }
         ensures frees { self.new ≡ with_place self.old place SlabPlace.Free }
-        ensures ports { IfHeldAt self.old.places place (λ held. result.ports ≡ held.1) }
+        ensures ports { IfHeldAt self.old.places place (λ item. result.ports ≡ item.1) }
         ensures reported { IfHeldAt self.old.places place
-            (λ held. IsReportedOf held.0 result.account result.ending result.fault_field) }
+            (λ item. IsReportedOf item.0 result.account result.ending result.fault_field) }
     {
         let taken = mem::replace(&mut self.places[place], SlabPlace::Free);
         self.next = place;

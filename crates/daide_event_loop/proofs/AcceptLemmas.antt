@@ -18,7 +18,7 @@ use Rattle.daide_driver.specs.declared.place.SlabPlace.{SlabPlace}
 use Rattle.daide_driver.specs.declared.place.SlabPlace.TheVariants.{Free, Kept, Held}
 use Rattle.daide_driver.specs.Slab.{SlabView, IsAt, IsNoneFree, all_free, ChangesAt}
 use Rattle.daide_event_loop.specs.QuotaPorts.{QuotaPortsView, Meters}
-use Rattle.daide_event_loop.specs.Serving.{ServiceView, fresh, OpensTurn, TurnsInRow, LeavesVisit, TurnsAndLeaves, MeetsBy, VisitsBy, Visits, queued_again}
+use Rattle.daide_event_loop.specs.Serving.{ServiceView, fresh, OpensTurn, TurnsInRow, LeavesVisit, TurnsAndLeaves, JoinsBy, VisitsBy, Visits, queued_again}
 use Rattle.daide_event_loop.specs.Serving.{Admits, accepted_at, opening, polled, has_room, Round, Rounds, initial_service, is_queue_empty, have_all_come}
 use Rattle.daide_event_loop.specs.Waiting.{NoBotIsLeftOut}
 use Rattle.daide_event_loop.proofs.WaitingLemmas.{woken_places, woken_there}
@@ -56,10 +56,10 @@ module _ {P : Type 0} (port_transition : P → PortCall → P → Type 0) where
   changed_length Kind old place new h =
       ap (λ (s : SlabView (QuotaPortsView P)). length s.places) h.3 ∙ length-set old.places place (Held h.1)
 
-  turns_length : (n : ℕ) (old : SlabView (QuotaPortsView P)) (place : ℕ) (answers : List (SystemCall P))
-      (new : SlabView (QuotaPortsView P)) → TurnsInRow port_transition n old place answers new → length new.places ≡ length old.places
-  turns_length zero old place answers new h = ap (λ (s : SlabView (QuotaPortsView P)). length s.places) h.1
-  turns_length (suc n) old place answers new h =
+  turns_length : (n : ℕ) (old : SlabView (QuotaPortsView P)) (place : ℕ) (trace : List (SystemCall P))
+      (new : SlabView (QuotaPortsView P)) → TurnsInRow port_transition n old place trace new → length new.places ≡ length old.places
+  turns_length zero old place trace new h = ap (λ (s : SlabView (QuotaPortsView P)). length s.places) h.1
+  turns_length (suc n) old place trace new h =
       changed_length (IsTurned (Meters port_transition)) h.6.begun place new h.6.runs
       ∙ changed_length (OpensTurn port_transition place h.2) h.0 place h.6.begun h.6.begins
       ∙ turns_length n old place h.1 h.0 h.4
@@ -74,12 +74,12 @@ module _ {P : Type 0} (port_transition : P → PortCall → P → Type 0) where
       (ap (λ (s : ServiceView P). s.ready.places) e, ap (λ (s : ServiceView P). length s.slab.places) e)
 
   leave_places : (closed : Bool) (now : SessionView × QuotaPortsView P) (old : ServiceView P) (place : ℕ)
-      (answers : List (SystemCall P)) (new : ServiceView P) → LeavesVisit closed now old place answers new → KeepsPlaces old new
-  leave_places true now old place answers new h = (
+      (trace : List (SystemCall P)) (new : ServiceView P) → LeavesVisit closed now old place trace new → KeepsPlaces old new
+  leave_places true now old place trace new h = (
     ap (λ (s : ServiceView P). s.ready.places) h.1,
     ap (λ (s : ServiceView P). length s.slab.places) h.1 ∙ length-set old.slab.places place Free,
   )
-  leave_places false now old place answers new h = (
+  leave_places false now old place trace new h = (
     ap (λ (s : ServiceView P). s.ready.places) h.2 ∙ (by h.0).0,
     ap (λ (s : ServiceView P). length s.slab.places) h.2 ∙ (by h.0).1,
   )
@@ -88,46 +88,46 @@ module _ {P : Type 0} (port_transition : P → PortCall → P → Type 0) where
       by true = (refl, refl)
       by false = (put_back_places old.ready place, refl)
 
-  given_places : (old : ServiceView P) (place turns : ℕ) (answers : List (SystemCall P)) (new : ServiceView P) →
-      TurnsAndLeaves port_transition old place turns answers new → KeepsPlaces old new
-  given_places old place turns answers new h =
+  given_places : (old : ServiceView P) (place turns : ℕ) (trace : List (SystemCall P)) (new : ServiceView P) →
+      TurnsAndLeaves port_transition old place turns trace new → KeepsPlaces old new
+  given_places old place turns trace new h =
       let left = leave_places (is_closed h.now.0) h.now (record old { slab = h.turned }) place h.leaving new h.leaves in
       (left.0, left.1 ∙ turns_length turns old.slab place h.turning h.turned h.takes.made)
 
   visit_places : (at : Option (SlabPlace (SessionView × QuotaPortsView P))) (old : ServiceView P) (place turns : ℕ)
-      (answers : List (SystemCall P)) (new : ServiceView P) → VisitsBy port_transition at old place turns answers new →
+      (trace : List (SystemCall P)) (new : ServiceView P) → VisitsBy port_transition at old place turns trace new →
       KeepsPlaces old new
-  visit_places None old place turns answers new h = same_run old new h.2
-  visit_places (Some Free) old place turns answers new h = same_run old new h.2
-  visit_places (Some Kept) old place turns answers new h = by h.0 h.1 h.3
+  visit_places None old place turns trace new h = same_run old new h.2
+  visit_places (Some Free) old place turns trace new h = same_run old new h.2
+  visit_places (Some Kept) old place turns trace new h = by h.0 h.1 h.3
     where
-      by : (connect : Connect P) (told : List (SystemCall P)) → MeetsBy port_transition connect old place turns told new →
+      by : (connect : Connect P) (joining : List (SystemCall P)) → JoinsBy port_transition connect old place turns joining new →
           KeepsPlaces old new
-      by (Ready ports) told m =
-          let given = given_places (record old { slab = m.0 }) place turns told new m.2 in (
+      by (Ready ports) joining m =
+          let given = given_places (record old { slab = m.0 }) place turns joining new m.2 in (
             given.0,
             given.1 ∙ ap (λ (s : SlabView (QuotaPortsView P)). length s.places) m.1.2
                 ∙ length-set old.slab.places place (Held (m.1.0, fresh ports old.counters.turns)),
           )
-      by Failed told m = (
+      by Failed joining m = (
         ap (λ (s : ServiceView P). s.ready.places) m.2,
         ap (λ (s : ServiceView P). length s.slab.places) m.2 ∙ length-set old.slab.places place Free,
       )
-      by Pending told m = same_run old new m.2
-  visit_places (Some (Held now)) old place turns answers new h = given_places old place turns answers new h
+      by Pending joining m = same_run old new m.2
+  visit_places (Some (Held now)) old place turns trace new h = given_places old place turns trace new h
 
-  pub visits_places : (visited : List ℕ) (turns : ℕ) (old : ServiceView P) (answers : List (SystemCall P)) (new : ServiceView P) →
-      Visits port_transition visited turns old answers new → KeepsPlaces old new
-  visits_places [] turns old answers new h = same_run old new h.2
-  visits_places (place ∷ earlier) turns old answers new h =
+  pub visits_places : (visited : List ℕ) (turns : ℕ) (old : ServiceView P) (trace : List (SystemCall P)) (new : ServiceView P) →
+      Visits port_transition visited turns old trace new → KeepsPlaces old new
+  visits_places [] turns old trace new h = same_run old new h.2
+  visits_places (place ∷ earlier) turns old trace new h =
       let before = visits_places earlier h.1 old h.3 h.0 h.7 in
       let last = visit_places (slice_get h.0.slab.places place) (record h.0 { ready = h.8.ready }) place h.2 h.4 new h.8.visits in
       (last.0 ∙ taken_places (has_room (h.1 + 8)) h.0.ready place h.8.ready h.8.chooses ∙ before.0, last.1 ∙ before.1)
 
-  admitted_places : (old : ServiceView P) (answers : List (SystemCall P)) (new : ServiceView P) → Admits old answers new →
+  admitted_places : (old : ServiceView P) (trace : List (SystemCall P)) (new : ServiceView P) → Admits old trace new →
       KeepsPlaces old new
-  admitted_places old answers new (inr none) = same_run old new none.2
-  admitted_places old answers new (inl asks) =
+  admitted_places old trace new (inr none) = same_run old new none.2
+  admitted_places old trace new (inl asks) =
       subst (λ (s : ServiceView P). KeepsPlaces old s) (sym asks.then_kept) (by asks.came)
     where
       by : (came : Bool) → KeepsPlaces old (if came then accepted_at old asks.place else old)
@@ -137,27 +137,27 @@ module _ {P : Type 0} (port_transition : P → PortCall → P → Type 0) where
   abbrev pub HasPlaces : ServiceView P → Type 0
   HasPlaces run = run.ready.places ≡ length run.slab.places
 
-  pub before_admission : (old new : ServiceView P) (answers : List (SystemCall P)) (r : Round port_transition old answers new) →
+  pub before_admission : (old new : ServiceView P) (trace : List (SystemCall P)) (r : Round port_transition old trace new) →
       HasPlaces old → HasPlaces r.mid
-  before_admission old new answers r h =
+  before_admission old new trace r h =
       let kept = visits_places r.visits.visited r.visits.turns (polled r.woken r.orders old) r.visiting r.mid r.visits.takes in
       kept.0 ∙ woken_all_places r.woken old.ready ∙ h ∙ sym kept.1
 
-  pub rounds_places : (settings : Settings) (n : ℕ) (answers : List (SystemCall P)) (run : ServiceView P) →
-      Rounds port_transition n (initial_service settings) answers run → HasPlaces run
-  rounds_places settings zero answers run h =
+  pub rounds_places : (settings : Settings) (n : ℕ) (trace : List (SystemCall P)) (run : ServiceView P) →
+      Rounds port_transition n (initial_service settings) trace run → HasPlaces run
+  rounds_places settings zero trace run h =
       subst HasPlaces (sym h.1) (sym (free_length (SessionView × QuotaPortsView P) settings.max_sessions))
-  rounds_places settings (suc n) answers run h =
+  rounds_places settings (suc n) trace run h =
       let mid = before_admission h.0 run h.2 h.6 (rounds_places settings n h.1 h.0 h.4) in
       let kept = admitted_places h.6.mid h.6.admission run h.6.admits in
       kept.0 ∙ mid ∙ sym kept.1
 
   -- the number of places never changes
-  pub rounds_length : (settings : Settings) (n : ℕ) (answers : List (SystemCall P)) (run : ServiceView P) →
-      Rounds port_transition n (initial_service settings) answers run → length run.slab.places ≡ settings.max_sessions
-  rounds_length settings zero answers run h =
+  pub rounds_length : (settings : Settings) (n : ℕ) (trace : List (SystemCall P)) (run : ServiceView P) →
+      Rounds port_transition n (initial_service settings) trace run → length run.slab.places ≡ settings.max_sessions
+  rounds_length settings zero trace run h =
       ap (λ (s : ServiceView P). length s.slab.places) h.1 ∙ free_length (SessionView × QuotaPortsView P) settings.max_sessions
-  rounds_length settings (suc n) answers run h =
+  rounds_length settings (suc n) trace run h =
       (admitted_places h.6.mid h.6.admission run h.6.admits).1
       ∙ (visits_places h.6.visits.visited h.6.visits.turns (polled h.6.woken h.6.orders h.0) h.6.visiting h.6.mid h.6.visits.takes).1
       ∙ rounds_length settings n h.1 h.0 h.4

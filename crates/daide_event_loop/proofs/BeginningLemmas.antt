@@ -70,17 +70,17 @@ module _ {P : Type 0} (port_transition : P → PortCall → P → Type 0) where
       (lent slab place old new held value begins)
 
   -- and so does whatever comes after it
-  pub turned_there : (old : SlabView (QuotaPortsView P)) (place : ℕ) (answers : List (SystemCall P))
-      (new : SlabView (QuotaPortsView P)) → TakesTurn port_transition old place answers new →
+  pub turned_there : (old : SlabView (QuotaPortsView P)) (place : ℕ) (trace : List (SystemCall P))
+      (new : SlabView (QuotaPortsView P)) → TakesTurn port_transition old place trace new →
       is_at is_held new.places place ≡ true
-  turned_there old place answers new h = held_then (IsTurned (Meters port_transition)) h.begun place new h.runs
+  turned_there old place trace new h = held_then (IsTurned (Meters port_transition)) h.begun place new h.runs
 
   -- after one turn or more
-  pub turns_there : (n : ℕ) (old : SlabView (QuotaPortsView P)) (place : ℕ) (answers : List (SystemCall P))
-      (new : SlabView (QuotaPortsView P)) → 0 < n → TurnsInRow port_transition n old place answers new →
+  pub turns_there : (n : ℕ) (old : SlabView (QuotaPortsView P)) (place : ℕ) (trace : List (SystemCall P))
+      (new : SlabView (QuotaPortsView P)) → 0 < n → TurnsInRow port_transition n old place trace new →
       is_at is_held new.places place ≡ true
-  turns_there zero old place answers new some h = absurd (omega (arith, some))
-  turns_there (suc n) old place answers new some h = turned_there h.0 place h.2 new h.6
+  turns_there zero old place trace new some h = absurd (omega (arith, some))
+  turns_there (suc n) old place trace new some h = turned_there h.0 place h.2 new h.6
 
   -- whether the session at a place moved is what its ports say
   pub moved_there : (slab : SlabView (QuotaPortsView P)) (place : ℕ) (ports : QuotaPortsView P) (moved : Bool) →
@@ -96,16 +96,16 @@ module _ {P : Type 0} (port_transition : P → PortCall → P → Type 0) where
     -- the turns of a visit so far, the last of which made progress
     pub record Taken (first : S) (old : SlabView (QuotaPortsView P)) (place n : ℕ) (slab : SlabView (QuotaPortsView P))
         (system : S) : Type 0 where
-      pub answers : List (SystemCall P)
-      pub transits : TransitsBy transition first answers system
-      pub turns : TurnsInRow port_transition n old place answers slab
+      pub trace : List (SystemCall P)
+      pub transits : TransitsBy transition first trace system
+      pub turns : TurnsInRow port_transition n old place trace slab
       pub moved : 0 < n → has_moved_in (slice_get slab.places place) ≡ true
       pub held : is_at is_held slab.places place ≡ true
 
     pub none_taken : (s : S) (old : SlabView (QuotaPortsView P)) (place : ℕ) →
         is_at is_held old.places place ≡ true → Taken s old place 0 old s
     none_taken s old place held = record {
-      answers = [];
+      trace = [];
       transits = refl;
       turns = (refl, refl);
       moved = λ none. absurd (omega (arith, none));
@@ -114,18 +114,18 @@ module _ {P : Type 0} (port_transition : P → PortCall → P → Type 0) where
 
     -- one turn more
     module _ (s t u : S) (old mid new : SlabView (QuotaPortsView P)) (place n : ℕ) (h : Taken s old place n mid t)
-        (answers : List (SystemCall P)) (goes : TransitsBy transition t answers u)
-        (takes : TakesTurn port_transition mid place answers new) where
-      one_more_turn : TurnsInRow port_transition (n + 1) old place (h.answers ++ answers) new
-      one_more_turn = rw add-one (mid, h.answers, answers, refl, h.turns, h.moved, takes)
+        (trace : List (SystemCall P)) (goes : TransitsBy transition t trace u)
+        (takes : TakesTurn port_transition mid place trace new) where
+      one_more_turn : TurnsInRow port_transition (n + 1) old place (h.trace ++ trace) new
+      one_more_turn = rw add-one (mid, h.trace, trace, refl, h.turns, h.moved, takes)
 
       pub another_turn : has_moved_in (slice_get new.places place) ≡ true → Taken s old place (n + 1) new u
       another_turn moved = record {
-        answers = h.answers ++ answers;
-        transits = transits_then transition h.answers answers s t u h.transits goes;
+        trace = h.trace ++ trace;
+        transits = transits_then transition h.trace trace s t u h.transits goes;
         turns = one_more_turn;
         moved = λ some. moved;
-        held = turned_there mid place answers new takes;
+        held = turned_there mid place trace new takes;
       }
 
       -- by which these are all turns, since it made no progress
@@ -133,8 +133,8 @@ module _ {P : Type 0} (port_transition : P → PortCall → P → Type 0) where
           (all : List (SystemCall P)) × TransitsBy transition s all u
           × TakesTurns port_transition old place (n + 1) all new
       last_turn few still = (
-        h.answers ++ answers,
-        transits_then transition h.answers answers s t u h.transits goes,
+        h.trace ++ trace,
+        transits_then transition h.trace trace s t u h.transits goes,
         record {
           made = one_more_turn;
           some = omega arith;
@@ -147,10 +147,10 @@ module _ {P : Type 0} (port_transition : P → PortCall → P → Type 0) where
     pub all_taken : (s t : S) (old new : SlabView (QuotaPortsView P)) (place n : ℕ) → Taken s old place n new t → n ≡ quantum →
         (all : List (SystemCall P)) × TransitsBy transition s all t × TakesTurns port_transition old place quantum all new
     all_taken s t old new place n h full = (
-      h.answers,
+      h.trace,
       h.transits,
       record {
-        made = subst (λ (k : ℕ). TurnsInRow port_transition k old place h.answers new) full h.turns;
+        made = subst (λ (k : ℕ). TurnsInRow port_transition k old place h.trace new) full h.turns;
         some = omega arith;
         few = omega arith;
         all = λ fewer. absurd (omega (arith, fewer));

@@ -35,14 +35,14 @@ use Rattle.daide_event_loop.proofs.LostWires.{is_lost, lost_waits}
 
 abbrev pub first_of : List PortCall → Option Ending
 first_of [] = None
-first_of (TurnBegins ∷ answers) = first_of answers
-first_of (Clock event ∷ answers) = first_of answers
-first_of (Pulled side buffer pull bytes ∷ answers) = Some (Endings.Ended side)
-first_of (Offered side bytes put ∷ answers) = Some (Endings.Lost side)
+first_of (TurnBegins ∷ trace) = first_of trace
+first_of (Clock event ∷ trace) = first_of trace
+first_of (Pulled side buffer pull bytes ∷ trace) = Some (Endings.Ended side)
+first_of (Offered side bytes put ∷ trace) = Some (Endings.Lost side)
 
 abbrev pub AreSpent : List PortCall → Type 0
 AreSpent [] = Unit {0}
-AreSpent (answer ∷ answers) = IsSpentAnswer answer × AreSpent answers
+AreSpent (answer ∷ trace) = IsSpentAnswer answer × AreSpent trace
 
 or_assoc : (a b : Option Ending) (c : Option Ending) → option_or (option_or a b) c ≡ option_or a (option_or b c)
 or_assoc None b c = refl
@@ -54,9 +54,9 @@ or_none (Some x) = refl
 
 module _ {P : Type 0} (port_transition : P → PortCall → P → Type 0) where
   -- ports beyond their quota stay so, and record the first of these ends
-  record Tells (answers : List PortCall) (old new : QuotaPortsView P) : Type 0 where
-    spent : AreSpent answers
-    first_synthetic_end : new.first_synthetic_end ≡ option_or old.first_synthetic_end (first_of answers)
+  record Tells (trace : List PortCall) (old new : QuotaPortsView P) : Type 0 where
+    spent : AreSpent trace
+    first_synthetic_end : new.first_synthetic_end ≡ option_or old.first_synthetic_end (first_of trace)
     turns_left : new.turns_left ≡ None
 
   asked_not : (left : Option ℕ) (old : P) (answer : PortCall) (new : P) → left ≡ None →
@@ -64,61 +64,61 @@ module _ {P : Type 0} (port_transition : P → PortCall → P → Type 0) where
   asked_not None old answer new e h = h.0
   asked_not (Some turns) old answer new e h = absurd (cc)
 
-  where_spent : (left : Option ℕ) (ending : Ending) (told : Option Ending) → left ≡ None →
-      reported_where left ending told ≡ option_or told (Some ending)
-  where_spent None ending told e = refl
-  where_spent (Some turns) ending told e = absurd (cc)
+  where_spent : (left : Option ℕ) (ending : Ending) (synthetic : Option Ending) → left ≡ None →
+      reported_where left ending synthetic ≡ option_or synthetic (Some ending)
+  where_spent None ending synthetic e = refl
+  where_spent (Some turns) ending synthetic e = absurd (cc)
 
-  tells : (answers : List PortCall) (old new : QuotaPortsView P) → old.turns_left ≡ None → EvolvesBy (Meters port_transition) old answers new →
-      Tells answers old new
+  tells : (trace : List PortCall) (old new : QuotaPortsView P) → old.turns_left ≡ None → EvolvesBy (Meters port_transition) old trace new →
+      Tells trace old new
   tells [] old new e h = record {
     spent = tt;
     first_synthetic_end = ap (λ (m : QuotaPortsView P). m.first_synthetic_end) h ∙ sym (or_none old.first_synthetic_end);
     turns_left = ap (λ (m : QuotaPortsView P). m.turns_left) h ∙ e;
   }
-  tells (TurnBegins ∷ answers) old new e h =
-      let rest = tells answers h.0 new (h.1.turns_left ∙ ap one_less e) h.2 in
+  tells (TurnBegins ∷ trace) old new e h =
+      let rest = tells trace h.0 new (h.1.turns_left ∙ ap one_less e) h.2 in
       record {
         spent = (tt, rest.spent);
-        first_synthetic_end = rest.first_synthetic_end ∙ ap (λ (o : Option Ending). option_or o (first_of answers)) h.1.first_synthetic_end;
+        first_synthetic_end = rest.first_synthetic_end ∙ ap (λ (o : Option Ending). option_or o (first_of trace)) h.1.first_synthetic_end;
         turns_left = rest.turns_left;
       }
-  tells (Clock event ∷ answers) old new e h =
+  tells (Clock event ∷ trace) old new e h =
       let left : h.0.turns_left ≡ None = h.1.turns_left ∙ e in
-      let rest = tells answers h.0 new left h.2 in
+      let rest = tells trace h.0 new left h.2 in
       record {
         spent = (asked_not h.0.turns_left old.ports (Clock event) h.0.ports left h.1.ports, rest.spent);
-        first_synthetic_end = rest.first_synthetic_end ∙ ap (λ (o : Option Ending). option_or o (first_of answers)) h.1.first_synthetic_end;
+        first_synthetic_end = rest.first_synthetic_end ∙ ap (λ (o : Option Ending). option_or o (first_of trace)) h.1.first_synthetic_end;
         turns_left = rest.turns_left;
       }
-  tells (Pulled side buffer pull bytes ∷ answers) old new e h =
+  tells (Pulled side buffer pull bytes ∷ trace) old new e h =
       let left : h.0.turns_left ≡ None = h.1.turns_left ∙ e in
-      let rest = tells answers h.0 new left h.2 in
+      let rest = tells trace h.0 new left h.2 in
       record {
         spent = (asked_not h.0.turns_left old.ports (Pulled side buffer pull bytes) h.0.ports left h.1.ports, rest.spent);
         first_synthetic_end = rest.first_synthetic_end
-            ∙ ap (λ (o : Option Ending). option_or o (first_of answers))
+            ∙ ap (λ (o : Option Ending). option_or o (first_of trace))
             (h.1.first_synthetic_end ∙ where_spent h.0.turns_left (Endings.Ended side) old.first_synthetic_end left)
-            ∙ or_assoc old.first_synthetic_end (Some (Endings.Ended side)) (first_of answers);
+            ∙ or_assoc old.first_synthetic_end (Some (Endings.Ended side)) (first_of trace);
         turns_left = rest.turns_left;
       }
-  tells (Offered side bytes put ∷ answers) old new e h =
+  tells (Offered side bytes put ∷ trace) old new e h =
       let left : h.0.turns_left ≡ None = h.1.turns_left ∙ e in
-      let rest = tells answers h.0 new left h.2 in
+      let rest = tells trace h.0 new left h.2 in
       record {
         spent = (asked_not h.0.turns_left old.ports (Offered side bytes put) h.0.ports left h.1.ports, rest.spent);
         first_synthetic_end = rest.first_synthetic_end
-            ∙ ap (λ (o : Option Ending). option_or o (first_of answers))
+            ∙ ap (λ (o : Option Ending). option_or o (first_of trace))
             (h.1.first_synthetic_end ∙ where_spent h.0.turns_left (Endings.Lost side) old.first_synthetic_end left)
-            ∙ or_assoc old.first_synthetic_end (Some (Endings.Lost side)) (first_of answers);
+            ∙ or_assoc old.first_synthetic_end (Some (Endings.Lost side)) (first_of trace);
         turns_left = rest.turns_left;
       }
 
   -- within the quota nothing is recorded
-  where_left : (left : Option ℕ) (turns : ℕ) (ending : Ending) (told : Option Ending) → left ≡ Some turns →
-      reported_where left ending told ≡ told
-  where_left None turns ending told e = absurd (cc)
-  where_left (Some more) turns ending told e = refl
+  where_left : (left : Option ℕ) (turns : ℕ) (ending : Ending) (synthetic : Option Ending) → left ≡ Some turns →
+      reported_where left ending synthetic ≡ synthetic
+  where_left None turns ending synthetic e = absurd (cc)
+  where_left (Some more) turns ending synthetic e = refl
 
   some_left : (o : Option ℕ) (turns : ℕ) → one_less o ≡ Some turns → o ≡ Some (suc turns)
   some_left None turns e = absurd (cc)
@@ -129,99 +129,99 @@ module _ {P : Type 0} (port_transition : P → PortCall → P → Type 0) where
       more_of None = Some (suc more)
       more_of (Some n) = Some (suc n)
 
-  untold : (answers : List PortCall) (turns : ℕ) (old new : QuotaPortsView P) → EvolvesBy (Meters port_transition) old answers new →
+  untold : (trace : List PortCall) (turns : ℕ) (old new : QuotaPortsView P) → EvolvesBy (Meters port_transition) old trace new →
       new.turns_left ≡ Some turns → (new.first_synthetic_end ≡ old.first_synthetic_end) × ((more : ℕ) × (old.turns_left ≡ Some more))
   untold [] turns old new h e =
       (ap (λ (m : QuotaPortsView P). m.first_synthetic_end) h, (turns, sym (ap (λ (m : QuotaPortsView P). m.turns_left) h) ∙ e))
-  untold (TurnBegins ∷ answers) turns old new h e =
-      let rest = untold answers turns h.0 new h.2 e in
+  untold (TurnBegins ∷ trace) turns old new h e =
+      let rest = untold trace turns h.0 new h.2 e in
       (rest.0 ∙ h.1.first_synthetic_end, (suc rest.1.0, some_left old.turns_left rest.1.0 (sym h.1.turns_left ∙ rest.1.1)))
-  untold (Clock event ∷ answers) turns old new h e =
-      let rest = untold answers turns h.0 new h.2 e in
+  untold (Clock event ∷ trace) turns old new h e =
+      let rest = untold trace turns h.0 new h.2 e in
       (rest.0 ∙ h.1.first_synthetic_end, (rest.1.0, sym h.1.turns_left ∙ rest.1.1))
-  untold (Pulled side buffer pull bytes ∷ answers) turns old new h e =
-      let rest = untold answers turns h.0 new h.2 e in (
+  untold (Pulled side buffer pull bytes ∷ trace) turns old new h e =
+      let rest = untold trace turns h.0 new h.2 e in (
         rest.0 ∙ (h.1.first_synthetic_end ∙ where_left h.0.turns_left rest.1.0 (Endings.Ended side) old.first_synthetic_end rest.1.1),
         (rest.1.0, sym h.1.turns_left ∙ rest.1.1),
       )
-  untold (Offered side bytes put ∷ answers) turns old new h e =
-      let rest = untold answers turns h.0 new h.2 e in (
+  untold (Offered side bytes put ∷ trace) turns old new h e =
+      let rest = untold trace turns h.0 new h.2 e in (
         rest.0 ∙ (h.1.first_synthetic_end ∙ where_left h.0.turns_left rest.1.0 (Endings.Lost side) old.first_synthetic_end rest.1.1),
         (rest.1.0, sym h.1.turns_left ∙ rest.1.1),
       )
 
   -- ---- the port calls within the quota
 
-  all_left : (answers : List PortCall) (turns more : ℕ) (old new : QuotaPortsView P) → old.turns_left ≡ Some turns →
-      EvolvesBy (Meters port_transition) old answers new → new.turns_left ≡ Some more → while_left turns answers ≡ answers
+  all_left : (trace : List PortCall) (turns more : ℕ) (old new : QuotaPortsView P) → old.turns_left ≡ Some turns →
+      EvolvesBy (Meters port_transition) old trace new → new.turns_left ≡ Some more → while_left turns trace ≡ trace
   all_left [] turns more old new e h k = refl
-  all_left (TurnBegins ∷ answers) zero more old new e h k =
-      let spent = tells answers h.0 new (h.1.turns_left ∙ ap one_less e) h.2 in
+  all_left (TurnBegins ∷ trace) zero more old new e h k =
+      let spent = tells trace h.0 new (h.1.turns_left ∙ ap one_less e) h.2 in
       let none = spent.turns_left in absurd (cc)
-  all_left (TurnBegins ∷ answers) (suc turns) more old new e h k =
-      ap (λ (l : List PortCall). TurnBegins ∷ l) (all_left answers turns more h.0 new (h.1.turns_left ∙ ap one_less e) h.2 k)
-  all_left (Clock event ∷ answers) turns more old new e h k =
-      ap (λ (l : List PortCall). Clock event ∷ l) (all_left answers turns more h.0 new (h.1.turns_left ∙ e) h.2 k)
-  all_left (Pulled side buffer pull bytes ∷ answers) turns more old new e h k =
+  all_left (TurnBegins ∷ trace) (suc turns) more old new e h k =
+      ap (λ (l : List PortCall). TurnBegins ∷ l) (all_left trace turns more h.0 new (h.1.turns_left ∙ ap one_less e) h.2 k)
+  all_left (Clock event ∷ trace) turns more old new e h k =
+      ap (λ (l : List PortCall). Clock event ∷ l) (all_left trace turns more h.0 new (h.1.turns_left ∙ e) h.2 k)
+  all_left (Pulled side buffer pull bytes ∷ trace) turns more old new e h k =
       ap (λ (l : List PortCall). Pulled side buffer pull bytes ∷ l)
-      (all_left answers turns more h.0 new (h.1.turns_left ∙ e) h.2 k)
-  all_left (Offered side bytes put ∷ answers) turns more old new e h k =
+      (all_left trace turns more h.0 new (h.1.turns_left ∙ e) h.2 k)
+  all_left (Offered side bytes put ∷ trace) turns more old new e h k =
       ap (λ (l : List PortCall). Offered side bytes put ∷ l)
-      (all_left answers turns more h.0 new (h.1.turns_left ∙ e) h.2 k)
+      (all_left trace turns more h.0 new (h.1.turns_left ∙ e) h.2 k)
 
   -- port calls beyond the quota are not counted
-  spent_adds : (answers more : List PortCall) (turns : ℕ) (old new : QuotaPortsView P) → old.turns_left ≡ Some turns →
-      EvolvesBy (Meters port_transition) old answers new → new.turns_left ≡ None →
-      while_left turns (answers ++ more) ≡ while_left turns answers
+  spent_adds : (trace more : List PortCall) (turns : ℕ) (old new : QuotaPortsView P) → old.turns_left ≡ Some turns →
+      EvolvesBy (Meters port_transition) old trace new → new.turns_left ≡ None →
+      while_left turns (trace ++ more) ≡ while_left turns trace
   spent_adds [] more turns old new e h k =
       let same = ap (λ (m : QuotaPortsView P). m.turns_left) h in absurd (cc)
-  spent_adds (TurnBegins ∷ answers) more zero old new e h k = refl
-  spent_adds (TurnBegins ∷ answers) more (suc turns) old new e h k =
+  spent_adds (TurnBegins ∷ trace) more zero old new e h k = refl
+  spent_adds (TurnBegins ∷ trace) more (suc turns) old new e h k =
       ap (λ (l : List PortCall). TurnBegins ∷ l)
-      (spent_adds answers more turns h.0 new (h.1.turns_left ∙ ap one_less e) h.2 k)
-  spent_adds (Clock event ∷ answers) more turns old new e h k =
-      ap (λ (l : List PortCall). Clock event ∷ l) (spent_adds answers more turns h.0 new (h.1.turns_left ∙ e) h.2 k)
-  spent_adds (Pulled side buffer pull bytes ∷ answers) more turns old new e h k =
+      (spent_adds trace more turns h.0 new (h.1.turns_left ∙ ap one_less e) h.2 k)
+  spent_adds (Clock event ∷ trace) more turns old new e h k =
+      ap (λ (l : List PortCall). Clock event ∷ l) (spent_adds trace more turns h.0 new (h.1.turns_left ∙ e) h.2 k)
+  spent_adds (Pulled side buffer pull bytes ∷ trace) more turns old new e h k =
       ap (λ (l : List PortCall). Pulled side buffer pull bytes ∷ l)
-      (spent_adds answers more turns h.0 new (h.1.turns_left ∙ e) h.2 k)
-  spent_adds (Offered side bytes put ∷ answers) more turns old new e h k =
+      (spent_adds trace more turns h.0 new (h.1.turns_left ∙ e) h.2 k)
+  spent_adds (Offered side bytes put ∷ trace) more turns old new e h k =
       ap (λ (l : List PortCall). Offered side bytes put ∷ l)
-      (spent_adds answers more turns h.0 new (h.1.turns_left ∙ e) h.2 k)
+      (spent_adds trace more turns h.0 new (h.1.turns_left ∙ e) h.2 k)
 
   -- the first of them is the beginning of a turn with none left
-  last_adds : (answers more : List PortCall) (turns : ℕ) (old new : QuotaPortsView P) →
-      old.turns_left ≡ Some turns → EvolvesBy (Meters port_transition) old answers new → new.turns_left ≡ Some 0 →
-      while_left turns (answers ++ TurnBegins ∷ more) ≡ answers
+  last_adds : (trace more : List PortCall) (turns : ℕ) (old new : QuotaPortsView P) →
+      old.turns_left ≡ Some turns → EvolvesBy (Meters port_transition) old trace new → new.turns_left ≡ Some 0 →
+      while_left turns (trace ++ TurnBegins ∷ more) ≡ trace
   last_adds [] more zero old new e h k = refl
   last_adds [] more (suc turns) old new e h k =
       let same = ap (λ (m : QuotaPortsView P). m.turns_left) h in absurd (cc)
-  last_adds (TurnBegins ∷ answers) more zero old new e h k =
-      let spent = tells answers h.0 new (h.1.turns_left ∙ ap one_less e) h.2 in
+  last_adds (TurnBegins ∷ trace) more zero old new e h k =
+      let spent = tells trace h.0 new (h.1.turns_left ∙ ap one_less e) h.2 in
       let none = spent.turns_left in absurd (cc)
-  last_adds (TurnBegins ∷ answers) more (suc turns) old new e h k =
+  last_adds (TurnBegins ∷ trace) more (suc turns) old new e h k =
       ap (λ (l : List PortCall). TurnBegins ∷ l)
-      (last_adds answers more turns h.0 new (h.1.turns_left ∙ ap one_less e) h.2 k)
-  last_adds (Clock event ∷ answers) more turns old new e h k =
-      ap (λ (l : List PortCall). Clock event ∷ l) (last_adds answers more turns h.0 new (h.1.turns_left ∙ e) h.2 k)
-  last_adds (Pulled side buffer pull bytes ∷ answers) more turns old new e h k =
+      (last_adds trace more turns h.0 new (h.1.turns_left ∙ ap one_less e) h.2 k)
+  last_adds (Clock event ∷ trace) more turns old new e h k =
+      ap (λ (l : List PortCall). Clock event ∷ l) (last_adds trace more turns h.0 new (h.1.turns_left ∙ e) h.2 k)
+  last_adds (Pulled side buffer pull bytes ∷ trace) more turns old new e h k =
       ap (λ (l : List PortCall). Pulled side buffer pull bytes ∷ l)
-      (last_adds answers more turns h.0 new (h.1.turns_left ∙ e) h.2 k)
-  last_adds (Offered side bytes put ∷ answers) more turns old new e h k =
+      (last_adds trace more turns h.0 new (h.1.turns_left ∙ e) h.2 k)
+  last_adds (Offered side bytes put ∷ trace) more turns old new e h k =
       ap (λ (l : List PortCall). Offered side bytes put ∷ l)
-      (last_adds answers more turns h.0 new (h.1.turns_left ∙ e) h.2 k)
+      (last_adds trace more turns h.0 new (h.1.turns_left ∙ e) h.2 k)
 
 -- ---- a session by its first synthetic end
 
 -- the session was in this state when its turns were spent, and the first synthetic end led to its present state
-pub record Cut (state now : SessionState) (told : Option Ending) : Type 0 where
-  pub still : told ≡ None → now ≡ state
+pub record Cut (state now : SessionState) (synthetic : Option Ending) : Type 0 where
+  pub still : synthetic ≡ None → now ≡ state
   pub over : (e : Ending) → (ending_in state.phase) ≡ Some e → now ≡ state
-  pub before : (e : Ending) → (ending_in state.phase) ≡ Some e → ((ending_in now.phase) ≡ Some e) × (is_reported told e ≡ false)
-  pub since : (e : Ending) → (ending_in state.phase) ≡ None → told ≡ Some e → (ending_in now.phase) ≡ Some e
-  pub itself : (e : Ending) → told ≡ Some e → is_reported (Some e) e ≡ true
+  pub before : (e : Ending) → (ending_in state.phase) ≡ Some e → ((ending_in now.phase) ≡ Some e) × (is_reported synthetic e ≡ false)
+  pub since : (e : Ending) → (ending_in state.phase) ≡ None → synthetic ≡ Some e → (ending_in now.phase) ≡ Some e
+  pub itself : (e : Ending) → synthetic ≡ Some e → is_reported (Some e) e ≡ true
 
-pub cut_open : (state : SessionState) (told : Option Ending) → told ≡ None → Cut state state told
-cut_open state told none = record {
+pub cut_open : (state : SessionState) (synthetic : Option Ending) → synthetic ≡ None → Cut state state synthetic
+cut_open state synthetic none = record {
   still = λ e. refl;
   over = λ e same. refl;
   before = λ e same. (same, ap (λ (o : Option Ending). is_reported o e) none);
@@ -233,25 +233,25 @@ abbrev is_reported_by : Ending → Option Ending → Bool
 is_reported_by one None = false
 is_reported_by one (Some two) = is_reported (Some one) two
 
-pub cut_cause : (state now : SessionState) (told : Option Ending) (ending : Ending) → Cut state now told →
-    (ending_in now.phase) ≡ Some ending → cause_by told (Some ending) ≡ cause_of (ending_in state.phase)
-cut_cause state now told ending c ended = by (ending_in state.phase) refl
+pub cut_cause : (state now : SessionState) (synthetic : Option Ending) (ending : Ending) → Cut state now synthetic →
+    (ending_in now.phase) ≡ Some ending → cause_by synthetic (Some ending) ≡ cause_of (ending_in state.phase)
+cut_cause state now synthetic ending c ended = by (ending_in state.phase) refl
   where
-    spent : (o : Option Ending) → told ≡ o → (ending_in state.phase) ≡ None → cause_by told (Some ending) ≡ Causes.TurnsSpent
+    spent : (o : Option Ending) → synthetic ≡ o → (ending_in state.phase) ≡ None → cause_by synthetic (Some ending) ≡ Causes.TurnsSpent
     spent None none same =
         let f = sym ended ∙ (ap (λ (s : SessionState). ending_in s.phase) (c.still none) ∙ same) in absurd (cc)
     spent (Some e) is same =
-        let own : is_reported told ending ≡ true =
+        let own : is_reported synthetic ending ≡ true =
         ap (λ (o : Option Ending). is_reported o ending) is
         ∙ subst (λ (o : Option Ending). is_reported_by e o ≡ true) (sym (c.since e same is) ∙ ended) (c.itself e is) in
         rw own refl
 
-    by : (o : Option Ending) → (ending_in state.phase) ≡ o → cause_by told (Some ending) ≡ cause_of o
+    by : (o : Option Ending) → (ending_in state.phase) ≡ o → cause_by synthetic (Some ending) ≡ cause_of o
     by (Some e) same =
         let b = c.before e same in
         let own = sym ended ∙ b.0 in
-        ap (cause_by told) own ∙ (rw b.1 refl)
-    by None same = spent told refl same
+        ap (cause_by synthetic) own ∙ (rw b.1 refl)
+    by None same = spent synthetic refl same
 
 -- an end or a failure that was returned beyond the quota is about no field
 no_field : (e : Ending) (s : SessionState) → is_reported (Some e) e ≡ true → field_in (Some e) s ≡ None
@@ -263,11 +263,11 @@ no_field (Endings.Fault side code) s h = absurd (cc)
 no_field Endings.Stopped s h = absurd (cc)
 
 -- the field of a session's fault is that of the state at its last turn within the quota
-pub cut_field : (state now : SessionState) (told : Option Ending) → Cut state now told →
+pub cut_field : (state now : SessionState) (synthetic : Option Ending) → Cut state now synthetic →
     fault_field_of now ≡ fault_field_of state
-cut_field state now told c = by (ending_in state.phase) refl
+cut_field state now synthetic c = by (ending_in state.phase) refl
   where
-    spent : (o : Option Ending) → told ≡ o → (ending_in state.phase) ≡ None → fault_field_of now ≡ fault_field_of state
+    spent : (o : Option Ending) → synthetic ≡ o → (ending_in state.phase) ≡ None → fault_field_of now ≡ fault_field_of state
     spent None none same = ap fault_field_of (c.still none)
     spent (Some e) is same =
         ap (λ (o : Option Ending). field_in o now) (c.since e same is) ∙ no_field e now (c.itself e is)
@@ -275,7 +275,7 @@ cut_field state now told c = by (ending_in state.phase) refl
 
     by : (o : Option Ending) → (ending_in state.phase) ≡ o → fault_field_of now ≡ fault_field_of state
     by (Some e) same = ap fault_field_of (c.over e same)
-    by None same = spent told refl same
+    by None same = spent synthetic refl same
 
 side_itself : (side : Side) → same_side side side ≡ true
 side_itself Bot = refl
@@ -285,13 +285,13 @@ abbrev self : Option Ending → Bool
 self None = false
 self (Some one) = is_reported (Some one) one
 
-first_itself : (answers : List PortCall) (e : Ending) → first_of answers ≡ Some e → is_reported (Some e) e ≡ true
+first_itself : (trace : List PortCall) (e : Ending) → first_of trace ≡ Some e → is_reported (Some e) e ≡ true
 first_itself [] e f = absurd (cc)
-first_itself (TurnBegins ∷ answers) e f = first_itself answers e f
-first_itself (Clock event ∷ answers) e f = first_itself answers e f
-first_itself (Pulled side buffer pull bytes ∷ answers) e f =
+first_itself (TurnBegins ∷ trace) e f = first_itself trace e f
+first_itself (Clock event ∷ trace) e f = first_itself trace e f
+first_itself (Pulled side buffer pull bytes ∷ trace) e f =
     subst (λ (o : Option Ending). self o ≡ true) f (side_itself side)
-first_itself (Offered side bytes put ∷ answers) e f =
+first_itself (Offered side bytes put ∷ trace) e f =
     subst (λ (o : Option Ending). self o ≡ true) f (side_itself side)
 
 -- ---- an open session
@@ -319,26 +319,26 @@ abbrev RefinesBy : Option Ending → SessionState → SessionState → Type 0
 RefinesBy None old new = new ≡ old
 RefinesBy (Some e) old new = (ending_in new.phase) ≡ Some e
 
-goes_by : (answers : List PortCall) (old : SessionState) (effects : List Effect) (new : SessionState) →
-    AreSpent answers → is_over old.phase ≡ false → Runs old (events_of answers) effects new →
-    RefinesBy (first_of answers) old new
+goes_by : (trace : List PortCall) (old : SessionState) (effects : List Effect) (new : SessionState) →
+    AreSpent trace → is_over old.phase ≡ false → Runs old (events_of trace) effects new →
+    RefinesBy (first_of trace) old new
 goes_by [] old effects new spent live run = run.1
-goes_by (TurnBegins ∷ answers) old effects new spent live run = goes_by answers old effects new spent.1 live run
-goes_by (Clock ImTimeIsOver ∷ answers) old effects new spent live run = let f = spent.0 in absurd (cc)
-goes_by (Clock StopIsRequested ∷ answers) old effects new spent live run = let f = spent.0 in absurd (cc)
-goes_by (Clock NoEvent ∷ answers) old effects new spent live run = goes_by answers old effects new spent.1 live run
-goes_by (Pulled side buffer (Got n) bytes ∷ answers) old effects new spent live run =
+goes_by (TurnBegins ∷ trace) old effects new spent live run = goes_by trace old effects new spent.1 live run
+goes_by (Clock ImTimeIsOver ∷ trace) old effects new spent live run = let f = spent.0 in absurd (cc)
+goes_by (Clock StopIsRequested ∷ trace) old effects new spent live run = let f = spent.0 in absurd (cc)
+goes_by (Clock NoEvent ∷ trace) old effects new spent live run = goes_by trace old effects new spent.1 live run
+goes_by (Pulled side buffer (Got n) bytes ∷ trace) old effects new spent live run =
     let f = spent.0 in absurd (cc)
-goes_by (Pulled side buffer Idle bytes ∷ answers) old effects new spent live run =
+goes_by (Pulled side buffer Idle bytes ∷ trace) old effects new spent live run =
     let f = spent.0 in absurd (cc)
-goes_by (Pulled side buffer Ended bytes ∷ answers) old effects new spent live run =
+goes_by (Pulled side buffer Ended bytes ∷ trace) old effects new spent live run =
     let one = ends_by old side run.1 run.0 live run.3 in
-    ap (λ (s : SessionState). ending_in s.phase) (over_for_good run.0 (events_of answers) run.2 new one.1 run.4) ∙ one.0
-goes_by (Offered side bytes (Took n) ∷ answers) old effects new spent live run =
+    ap (λ (s : SessionState). ending_in s.phase) (over_for_good run.0 (events_of trace) run.2 new one.1 run.4) ∙ one.0
+goes_by (Offered side bytes (Took n) ∷ trace) old effects new spent live run =
     let f = spent.0 in absurd (cc)
-goes_by (Offered side bytes Failed ∷ answers) old effects new spent live run =
+goes_by (Offered side bytes Failed ∷ trace) old effects new spent live run =
     let one = loses_by old side run.1 run.0 live run.3 in
-    ap (λ (s : SessionState). ending_in s.phase) (over_for_good run.0 (events_of answers) run.2 new one.1 run.4) ∙ one.0
+    ap (λ (s : SessionState). ending_in s.phase) (over_for_good run.0 (events_of trace) run.2 new one.1 run.4) ∙ one.0
 
 -- ---- a session that is over
 
@@ -361,7 +361,7 @@ module _ (limits : Limits) (history : List PortCall) (g : SessionView) (ending :
     (stands : IsReachable limits history g) (over : is_over g.state.phase ≡ true) (ended : (ending_in g.state.phase) ≡ Some ending) where
   -- its ending is not the first synthetic end
   abbrev Other : List PortCall → Type 0
-  Other answers = is_reported (first_of answers) ending ≡ false
+  Other trace = is_reported (first_of trace) ending ≡ false
 
   puts_other : (side : Side) (first second : List PortCall) (new : SessionView) → Puts side g first new →
       (new ≡ g → Other second) → Other (first ++ second)
@@ -385,30 +385,30 @@ module _ (limits : Limits) (history : List PortCall) (g : SessionView) (ending :
       let none = no_room g side over in
       absurd (omega (arith, some, none))
 
-  last_pull : (answers : List PortCall) (new : SessionView) → Pulls Server g answers new → Other answers
-  last_pull answers new h =
-      subst Other (append-nil answers) (pulls_other Server answers [] new h (λ same. refl))
+  last_pull : (trace : List PortCall) (new : SessionView) → Pulls Server g trace new → Other trace
+  last_pull trace new h =
+      subst Other (append-nil trace) (pulls_other Server trace [] new h (λ same. refl))
 
   turn_other : (call : List PortCall) (new : SessionView) → Turn g call new → AreSpent call → Other call
   turn_other call new t spent = begun t.4.0 t.4.1 t.4.2
     where
-      after_puts : (mid : SessionView) (answers : List PortCall) → mid ≡ g →
-          Then (Pulls Bot) (Pulls Server) mid answers new → Other answers
-      after_puts mid answers same h =
-          let k = subst (λ (a : SessionView). Then (Pulls Bot) (Pulls Server) a answers new) same h in
+      after_puts : (mid : SessionView) (trace : List PortCall) → mid ≡ g →
+          Then (Pulls Bot) (Pulls Server) mid trace new → Other trace
+      after_puts mid trace same h =
+          let k = subst (λ (a : SessionView). Then (Pulls Bot) (Pulls Server) a trace new) same h in
           subst Other (sym k.3) (pulls_other Bot k.1 k.2 k.0 k.4
           (λ still. last_pull k.2 new (subst (λ (a : SessionView). Pulls Server a k.2 new) still k.5)))
 
-      after_put : (mid : SessionView) (answers : List PortCall) → mid ≡ g →
-          Then (Puts Server) (Then (Pulls Bot) (Pulls Server)) mid answers new → Other answers
-      after_put mid answers same h =
-          let k = subst (λ (a : SessionView). Then (Puts Server) (Then (Pulls Bot) (Pulls Server)) a answers new) same h in
+      after_put : (mid : SessionView) (trace : List PortCall) → mid ≡ g →
+          Then (Puts Server) (Then (Pulls Bot) (Pulls Server)) mid trace new → Other trace
+      after_put mid trace same h =
+          let k = subst (λ (a : SessionView). Then (Puts Server) (Then (Pulls Bot) (Pulls Server)) a trace new) same h in
           subst Other (sym k.3) (puts_other Server k.1 k.2 k.0 k.4 (λ still. after_puts k.0 k.2 still k.5))
 
-      after_clock : (mid : SessionView) (answers : List PortCall) → mid ≡ g →
-          Then (Puts Bot) (Then (Puts Server) (Then (Pulls Bot) (Pulls Server))) mid answers new → Other answers
-      after_clock mid answers same h =
-          let k = subst (λ (a : SessionView). Then (Puts Bot) (Then (Puts Server) (Then (Pulls Bot) (Pulls Server))) a answers
+      after_clock : (mid : SessionView) (trace : List PortCall) → mid ≡ g →
+          Then (Puts Bot) (Then (Puts Server) (Then (Pulls Bot) (Pulls Server))) mid trace new → Other trace
+      after_clock mid trace same h =
+          let k = subst (λ (a : SessionView). Then (Puts Bot) (Then (Puts Server) (Then (Pulls Bot) (Pulls Server))) a trace
           new) same h in
           subst Other (sym k.3) (puts_other Bot k.1 k.2 k.0 k.4 (λ still. after_put k.0 k.2 still k.5))
 
@@ -432,31 +432,31 @@ some_ending (Some x) over e f = (x, refl)
 
 -- a turn beyond the quota
 module _ (limits : Limits) (history call : List PortCall) (a b : SessionView) (effects : List Effect)
-    (state : SessionState) (told later : Option Ending) (stands : IsReachable limits history a) (turn : Turn a call b)
+    (state : SessionState) (synthetic later : Option Ending) (stands : IsReachable limits history a) (turn : Turn a call b)
     (spent : AreSpent call) (run : Runs a.state (events_of call) effects b.state)
-    (is : later ≡ option_or told (first_of call)) (c : Cut state a.state told) where
+    (is : later ≡ option_or synthetic (first_of call)) (c : Cut state a.state synthetic) where
   known : is_some (ending_in a.state.phase) ≡ is_over a.state.phase
   known = ending_known a.state.phase
 
   ended_over : (e : Ending) → (ending_in a.state.phase) ≡ Some e → is_over a.state.phase ≡ true
   ended_over e same = sym known ∙ ap is_some same
 
-  was_ended : (m : Ending) → told ≡ Some m → (o : Option Ending) → (ending_in state.phase) ≡ o →
+  was_ended : (m : Ending) → synthetic ≡ Some m → (o : Option Ending) → (ending_in state.phase) ≡ o →
       (e : Ending) × ((ending_in a.state.phase) ≡ Some e)
   was_ended m same (Some e) f = (e, (c.before e f).0)
   was_ended m same None f = (m, c.since m f same)
 
   -- an end was recorded before
-  reported_before : (m : Ending) → told ≡ Some m → Cut state b.state later
+  reported_before : (m : Ending) → synthetic ≡ Some m → Cut state b.state later
   reported_before m same =
       let e = was_ended m same (ending_in state.phase) refl in
       let still = over_for_good a.state (events_of call) effects b.state (ended_over e.0 e.1) run in
-      let kept : later ≡ told =
+      let kept : later ≡ synthetic =
       is ∙ (ap (λ (o : Option Ending). option_or o (first_of call)) same ∙ sym same) in
       subst (λ (o : Option Ending). Cut state b.state o) (sym kept)
-      (subst (λ (s : SessionState). Cut state s told) (sym still) c)
+      (subst (λ (s : SessionState). Cut state s synthetic) (sym still) c)
 
-  first_is : told ≡ None → later ≡ first_of call
+  first_is : synthetic ≡ None → later ≡ first_of call
   first_is none = is ∙ ap (λ (o : Option Ending). option_or o (first_of call)) none
 
   abbrev is_later : Option Ending → Bool
@@ -464,7 +464,7 @@ module _ (limits : Limits) (history call : List PortCall) (a b : SessionView) (e
   is_later (Some x) = is_reported later x
 
   -- the session was over, and no end was recorded since
-  over_before : told ≡ None → is_over a.state.phase ≡ true → Cut state b.state later
+  over_before : synthetic ≡ None → is_over a.state.phase ≡ true → Cut state b.state later
   over_before none over =
       let e = some_ending (ending_in a.state.phase) (is_over a.state.phase) known over in
       let first = first_is none in
@@ -485,7 +485,7 @@ module _ (limits : Limits) (history call : List PortCall) (a b : SessionView) (e
       }
 
   -- the session was open: the first synthetic end ends it
-  open_before : told ≡ None → is_over a.state.phase ≡ false → Cut state b.state later
+  open_before : synthetic ≡ None → is_over a.state.phase ≡ false → Cut state b.state later
   open_before none live =
       let first = first_is none in
       let goes : RefinesBy later a.state b.state =
@@ -500,16 +500,16 @@ module _ (limits : Limits) (history call : List PortCall) (a b : SessionView) (e
         itself = λ x f. first_itself call x (sym first ∙ f);
       }
 
-  nothing_before : (over : Bool) → is_over a.state.phase ≡ over → told ≡ None → Cut state b.state later
+  nothing_before : (over : Bool) → is_over a.state.phase ≡ over → synthetic ≡ None → Cut state b.state later
   nothing_before true over none = over_before none over
   nothing_before false live none = open_before none live
 
-  by_reported : (o : Option Ending) → told ≡ o → Cut state b.state later
+  by_reported : (o : Option Ending) → synthetic ≡ o → Cut state b.state later
   by_reported (Some m) same = reported_before m same
   by_reported None none = nothing_before (is_over a.state.phase) refl none
 
   spent_turn : Cut state b.state later
-  spent_turn = by_reported told refl
+  spent_turn = by_reported synthetic refl
 
 -- ---- along a session's turns
 

@@ -19,8 +19,8 @@ use Rattle.daide_driver.specs.declared.place.SlabPlace.TheVariants.{Free, Kept, 
 use Rattle.daide_driver.specs.Slab.{SlabView, IsAt, is_held, is_kept, ChangesAt}
 use Rattle.daide_event_loop.specs.QuotaPorts.{QuotaPortsView, Meters, beginning_where, RestsBy}
 use Rattle.daide_event_loop.specs.Serving.{ServiceView, sessions_in, pending_in, shows_where, opening, polled, closed}
-use Rattle.daide_event_loop.specs.Serving.{OpensTurn, TurnsInRow, LeavesVisit, TurnsAndLeaves, MeetsBy, VisitsBy, Visits}
-use Rattle.daide_event_loop.specs.Serving.{fresh, queued_again, last_words, parting, end_of, Admits, accepted_at}
+use Rattle.daide_event_loop.specs.Serving.{OpensTurn, TurnsInRow, LeavesVisit, TurnsAndLeaves, JoinsBy, VisitsBy, Visits}
+use Rattle.daide_event_loop.specs.Serving.{fresh, queued_again, spent_notice, retirement, end_of, Admits, accepted_at}
 use Rattle.daide_event_loop.specs.Served.{comes, connects, retires, unreached, sum_over_calls}
 
 -- ---- counts of places
@@ -92,11 +92,11 @@ module _ {P : Type 0} (port_transition : P → PortCall → P → Type 0) (count
 
   -- the calls that begin turns add nothing, if one adds nothing
   pub turns_none : ((place : ℕ) (before after : P) → count (BeginsTurn place before after) ≡ 0) → (n : ℕ)
-      (old : SlabView (QuotaPortsView P)) (place : ℕ) (answers : List (SystemCall P)) (new : SlabView (QuotaPortsView P)) →
-      TurnsInRow port_transition n old place answers new → sum_over_calls count answers ≡ 0
-  turns_none none zero old place answers new h = ap (sum_over_calls count) h.0
-  turns_none none (suc n) old place answers new h =
-      let all = parts_count count answers h.1 h.2 h.3 in
+      (old : SlabView (QuotaPortsView P)) (place : ℕ) (trace : List (SystemCall P)) (new : SlabView (QuotaPortsView P)) →
+      TurnsInRow port_transition n old place trace new → sum_over_calls count trace ≡ 0
+  turns_none none zero old place trace new h = ap (sum_over_calls count) h.0
+  turns_none none (suc n) old place trace new h =
+      let all = parts_count count trace h.1 h.2 h.3 in
       let before = turns_none none n old place h.1 h.0 h.4 in
       let begins = h.6.begins in
       let last : sum_over_calls count h.2 ≡ 0 =
@@ -104,66 +104,66 @@ module _ {P : Type 0} (port_transition : P → PortCall → P → Type 0) (count
       omega (arith, all, before, last)
 
   pub rests_none : ((place : ℕ) (ports : P) (rests : Bool) → count (Rests place ports rests) ≡ 0) → (moved : Bool) (place : ℕ)
-      (ports : P) (answers : List (SystemCall P)) (rests : Bool) → RestsBy moved place ports answers rests →
-      sum_over_calls count answers ≡ 0
-  rests_none none true place ports answers rests h = ap (sum_over_calls count) h.0
-  rests_none none false place ports answers rests h =
+      (ports : P) (trace : List (SystemCall P)) (rests : Bool) → RestsBy moved place ports trace rests →
+      sum_over_calls count trace ≡ 0
+  rests_none none true place ports trace rests h = ap (sum_over_calls count) h.0
+  rests_none none false place ports trace rests h =
       let all = ap (sum_over_calls count) h in
       let one = none place ports rests in
       omega (arith, all, one)
 
   -- a parting adds what its last call adds
-  pub parting_count : ((notice : Notice) → count (Notifies notice) ≡ 0) → (place : ℕ) (ports : QuotaPortsView P) (end : SessionEnd) →
-      sum_over_calls count (parting place ports end) ≡ count (Retires place ports.ports end)
-  parting_count none place ports end = by (is_none ports.turns_left)
+  pub retirement_count : ((notice : Notice) → count (Notifies notice) ≡ 0) → (place : ℕ) (ports : QuotaPortsView P) (end : SessionEnd) →
+      sum_over_calls count (retirement place ports end) ≡ count (Retires place ports.ports end)
+  retirement_count none place ports end = by (is_none ports.turns_left)
     where
-      by : (spent : Bool) → sum_over_calls count (last_words spent ++ Retires place ports.ports end ∷ []) ≡ count (Retires place ports.ports end)
+      by : (spent : Bool) → sum_over_calls count (spent_notice spent ++ Retires place ports.ports end ∷ []) ≡ count (Retires place ports.ports end)
       by true = let word = none TurnsSpent in omega (arith, word)
       by false = omega arith
 
   module _ (early : IsOfOpening count) where
     leave_none : (closed : Bool) (now : SessionView × QuotaPortsView P) (old : ServiceView P) (place : ℕ)
-        (answers : List (SystemCall P)) (new : ServiceView P) → LeavesVisit closed now old place answers new →
-        sum_over_calls count answers ≡ 0
-    leave_none true now old place answers new h =
-        ap (sum_over_calls count) h.0 ∙ parting_count early.notifies place now.1 (end_of now)
+        (trace : List (SystemCall P)) (new : ServiceView P) → LeavesVisit closed now old place trace new →
+        sum_over_calls count trace ≡ 0
+    leave_none true now old place trace new h =
+        ap (sum_over_calls count) h.0 ∙ retirement_count early.notifies place now.1 (end_of now)
         ∙ early.retires place now.1.ports (end_of now)
-    leave_none false now old place answers new h =
-        rests_none early.rests now.1.made_progress place now.1.ports answers h.0 h.1
+    leave_none false now old place trace new h =
+        rests_none early.rests now.1.made_progress place now.1.ports trace h.0 h.1
 
-    turned_none : (old : ServiceView P) (place turns : ℕ) (answers : List (SystemCall P)) (new : ServiceView P) →
-        TurnsAndLeaves port_transition old place turns answers new → sum_over_calls count answers ≡ 0
-    turned_none old place turns answers new h =
-        let all = parts_count count answers h.turning h.leaving h.asked in
+    turned_none : (old : ServiceView P) (place turns : ℕ) (trace : List (SystemCall P)) (new : ServiceView P) →
+        TurnsAndLeaves port_transition old place turns trace new → sum_over_calls count trace ≡ 0
+    turned_none old place turns trace new h =
+        let all = parts_count count trace h.turning h.leaving h.asked in
         let begun = turns_none early.turns turns old.slab place h.turning h.turned h.takes.made in
         let left = leave_none (is_closed h.now.0) h.now (record old { slab = h.turned }) place h.leaving new h.leaves in
         omega (arith, all, begun, left)
 
-    visit_none : (at : Option (SlabPlace (SessionView × QuotaPortsView P))) (old : ServiceView P) (place turns : ℕ) (answers : List (SystemCall P))
-        (new : ServiceView P) → VisitsBy port_transition at old place turns answers new → sum_over_calls count answers ≡ 0
-    visit_none None old place turns answers new h = ap (sum_over_calls count) h.1
-    visit_none (Some Free) old place turns answers new h = ap (sum_over_calls count) h.1
-    visit_none (Some Kept) old place turns answers new h =
+    visit_none : (at : Option (SlabPlace (SessionView × QuotaPortsView P))) (old : ServiceView P) (place turns : ℕ) (trace : List (SystemCall P))
+        (new : ServiceView P) → VisitsBy port_transition at old place turns trace new → sum_over_calls count trace ≡ 0
+    visit_none None old place turns trace new h = ap (sum_over_calls count) h.1
+    visit_none (Some Free) old place turns trace new h = ap (sum_over_calls count) h.1
+    visit_none (Some Kept) old place turns trace new h =
         let all = ap (sum_over_calls count) h.2 in
         let one = early.connects place h.0 in
         let rest = by h.0 h.1 h.3 in
         omega (arith, all, one, rest)
       where
-        by : (connect : Connect P) (told : List (SystemCall P)) → MeetsBy port_transition connect old place turns told new →
-            sum_over_calls count told ≡ 0
-        by (Ready ports) told m = turned_none (record old { slab = m.0 }) place turns told new m.2
-        by Failed told m =
+        by : (connect : Connect P) (joining : List (SystemCall P)) → JoinsBy port_transition connect old place turns joining new →
+            sum_over_calls count joining ≡ 0
+        by (Ready ports) joining m = turned_none (record old { slab = m.0 }) place turns joining new m.2
+        by Failed joining m =
             let all = ap (sum_over_calls count) m.1 in
             let word = early.notifies CannotReach in
             omega (arith, all, word)
-        by Pending told m = ap (sum_over_calls count) m.1
-    visit_none (Some (Held now)) old place turns answers new h = turned_none old place turns answers new h
+        by Pending joining m = ap (sum_over_calls count) m.1
+    visit_none (Some (Held now)) old place turns trace new h = turned_none old place turns trace new h
 
-    pub visits_none : (visited : List ℕ) (turns : ℕ) (old : ServiceView P) (answers : List (SystemCall P)) (new : ServiceView P) →
-        Visits port_transition visited turns old answers new → sum_over_calls count answers ≡ 0
-    visits_none [] turns old answers new h = ap (sum_over_calls count) h.1
-    visits_none (place ∷ earlier) turns old answers new h =
-        let all = parts_count count answers h.3 h.4 h.6 in
+    pub visits_none : (visited : List ℕ) (turns : ℕ) (old : ServiceView P) (trace : List (SystemCall P)) (new : ServiceView P) →
+        Visits port_transition visited turns old trace new → sum_over_calls count trace ≡ 0
+    visits_none [] turns old trace new h = ap (sum_over_calls count) h.1
+    visits_none (place ∷ earlier) turns old trace new h =
+        let all = parts_count count trace h.3 h.4 h.6 in
         let before = visits_none earlier h.1 old h.3 h.0 h.7 in
         let last = visit_none (slice_get h.0.slab.places place) (record h.0 { ready = h.8.ready }) place h.2 h.4 new h.8.visits in
         omega (arith, all, before, last)
@@ -173,11 +173,11 @@ module _ {P : Type 0} (port_transition : P → PortCall → P → Type 0) (count
 module _ {P : Type 0} where
   -- what a trace adds: bots that were accepted; sessions that began, and those that were retired; connects that are
   -- pending no more
-  pub record Counts (answers : List (SystemCall P)) (old new : ServiceView P) : Type 0 where
-    pub came : old.counters.accepted + sum_over_calls comes answers ≡ new.counters.accepted
-    pub held : sessions_in old.slab + sum_over_calls connects answers ≡ sessions_in new.slab + sum_over_calls retires answers
-    pub met : pending_in old.slab + sum_over_calls comes answers
-        ≡ pending_in new.slab + sum_over_calls connects answers + sum_over_calls unreached answers
+  pub record Counts (trace : List (SystemCall P)) (old new : ServiceView P) : Type 0 where
+    pub came : old.counters.accepted + sum_over_calls comes trace ≡ new.counters.accepted
+    pub held : sessions_in old.slab + sum_over_calls connects trace ≡ sessions_in new.slab + sum_over_calls retires trace
+    pub met : pending_in old.slab + sum_over_calls comes trace
+        ≡ pending_in new.slab + sum_over_calls connects trace + sum_over_calls unreached trace
 
   pub counts_then : (all xs ys : List (SystemCall P)) (a b c : ServiceView P) → all ≡ xs ++ ys → Counts xs a b → Counts ys b c →
       Counts all a c
@@ -199,11 +199,11 @@ module _ {P : Type 0} where
       }
 
   -- nothing is counted in these calls, and the counts of the run are the same
-  pub same_counts : (answers : List (SystemCall P)) (old new : ServiceView P) → sum_over_calls comes answers ≡ 0 →
-      sum_over_calls connects answers ≡ 0 → sum_over_calls retires answers ≡ 0 → sum_over_calls unreached answers ≡ 0 →
+  pub same_counts : (trace : List (SystemCall P)) (old new : ServiceView P) → sum_over_calls comes trace ≡ 0 →
+      sum_over_calls connects trace ≡ 0 → sum_over_calls retires trace ≡ 0 → sum_over_calls unreached trace ≡ 0 →
       new.counters.accepted ≡ old.counters.accepted → sessions_in new.slab ≡ sessions_in old.slab →
-      pending_in new.slab ≡ pending_in old.slab → Counts answers old new
-  same_counts answers old new a b c d e f g = record {
+      pending_in new.slab ≡ pending_in old.slab → Counts trace old new
+  same_counts trace old new a b c d e f g = record {
     came = omega (arith, a, e);
     held = omega (arith, b, c, f);
     met = omega (arith, a, b, d, g);
@@ -228,14 +228,14 @@ module _ {P : Type 0} where
 
   -- ---- a bot is accepted
 
-  pub admission_counts : (old : ServiceView P) (answers : List (SystemCall P)) (new : ServiceView P) → Admits old answers new →
-      Counts answers old new
-  admission_counts old answers new (inr none) =
-      same_counts answers old new (ap (sum_over_calls comes) none.1) (ap (sum_over_calls connects) none.1)
+  pub admission_counts : (old : ServiceView P) (trace : List (SystemCall P)) (new : ServiceView P) → Admits old trace new →
+      Counts trace old new
+  admission_counts old trace new (inr none) =
+      same_counts trace old new (ap (sum_over_calls comes) none.1) (ap (sum_over_calls connects) none.1)
       (ap (sum_over_calls retires) none.1) (ap (sum_over_calls unreached) none.1)
       (ap (λ (s : ServiceView P). s.counters.accepted) none.2) (ap (λ (s : ServiceView P). sessions_in s.slab) none.2)
       (ap (λ (s : ServiceView P). pending_in s.slab) none.2)
-  admission_counts old answers new (inl asks) =
+  admission_counts old trace new (inl asks) =
       subst (λ (l : List (SystemCall P)). Counts l old new) (sym asks.asked)
       (subst (λ (s : ServiceView P). Counts (Accepts asks.place asks.came ∷ []) old s) (sym asks.then_kept) (by asks.came))
     where
@@ -264,40 +264,40 @@ module _ {P : Type 0} (port_transition : P → PortCall → P → Type 0) where
         ap (λ (s : SlabView (QuotaPortsView P)). pending_in s) h.3 ∙ omega (arith, pending),
       )
 
-  turns_counts : (n : ℕ) (old : SlabView (QuotaPortsView P)) (place : ℕ) (answers : List (SystemCall P))
-      (new : SlabView (QuotaPortsView P)) → TurnsInRow port_transition n old place answers new →
+  turns_counts : (n : ℕ) (old : SlabView (QuotaPortsView P)) (place : ℕ) (trace : List (SystemCall P))
+      (new : SlabView (QuotaPortsView P)) → TurnsInRow port_transition n old place trace new →
       (sessions_in new ≡ sessions_in old) × (pending_in new ≡ pending_in old)
-  turns_counts zero old place answers new h =
+  turns_counts zero old place trace new h =
       (ap (λ (s : SlabView (QuotaPortsView P)). sessions_in s) h.1, ap (λ (s : SlabView (QuotaPortsView P)). pending_in s) h.1)
-  turns_counts (suc n) old place answers new h =
+  turns_counts (suc n) old place trace new h =
       let before = turns_counts n old place h.1 h.0 h.4 in
       let begun = changed_counts (OpensTurn port_transition place h.2) h.0 place h.6.begun h.6.begins in
       let run = changed_counts (IsTurned (Meters port_transition)) h.6.begun place new h.6.runs in
       (run.0 ∙ begun.0 ∙ before.0, run.1 ∙ begun.1 ∙ before.1)
 
   leave_counts : (closed : Bool) (now : SessionView × QuotaPortsView P) (old : ServiceView P) (place : ℕ)
-      (answers : List (SystemCall P)) (new : ServiceView P) → IsAt old.slab place (Held now) →
-      LeavesVisit closed now old place answers new → Counts answers old new
-  leave_counts true now old place answers new at h =
+      (trace : List (SystemCall P)) (new : ServiceView P) → IsAt old.slab place (Held now) →
+      LeavesVisit closed now old place trace new → Counts trace old new
+  leave_counts true now old place trace new at h =
       let end = end_of now in
       let sessions = set_count is_held old.slab.places place (Held now) Free at in
       let pending = set_count is_kept old.slab.places place (Held now) Free at in
-      let a = parting_count port_transition comes (λ notice. refl) place now.1 end in
-      let b = parting_count port_transition connects (λ notice. refl) place now.1 end in
-      let c = parting_count port_transition retires (λ notice. refl) place now.1 end in
-      let d = parting_count port_transition unreached (λ notice. refl) place now.1 end in
+      let a = retirement_count port_transition comes (λ notice. refl) place now.1 end in
+      let b = retirement_count port_transition connects (λ notice. refl) place now.1 end in
+      let c = retirement_count port_transition retires (λ notice. refl) place now.1 end in
+      let d = retirement_count port_transition unreached (λ notice. refl) place now.1 end in
       subst (λ (l : List (SystemCall P)). Counts l old new) (sym h.0)
-      (subst (λ (s : ServiceView P). Counts (parting place now.1 end) old s) (sym h.1) (record {
+      (subst (λ (s : ServiceView P). Counts (retirement place now.1 end) old s) (sym h.1) (record {
         came = omega (arith, a);
         held = omega (arith, b, c, sessions);
         met = omega (arith, a, b, d, pending);
       }))
-  leave_counts false now old place answers new at h =
-      same_counts answers old new
-      (rests_none port_transition comes (λ place ports rests. refl) now.1.made_progress place now.1.ports answers h.0 h.1)
-      (rests_none port_transition connects (λ place ports rests. refl) now.1.made_progress place now.1.ports answers h.0 h.1)
-      (rests_none port_transition retires (λ place ports rests. refl) now.1.made_progress place now.1.ports answers h.0 h.1)
-      (rests_none port_transition unreached (λ place ports rests. refl) now.1.made_progress place now.1.ports answers h.0 h.1)
+  leave_counts false now old place trace new at h =
+      same_counts trace old new
+      (rests_none port_transition comes (λ place ports rests. refl) now.1.made_progress place now.1.ports trace h.0 h.1)
+      (rests_none port_transition connects (λ place ports rests. refl) now.1.made_progress place now.1.ports trace h.0 h.1)
+      (rests_none port_transition retires (λ place ports rests. refl) now.1.made_progress place now.1.ports trace h.0 h.1)
+      (rests_none port_transition unreached (λ place ports rests. refl) now.1.made_progress place now.1.ports trace h.0 h.1)
       (ap (λ (s : ServiceView P). s.counters.accepted) h.2 ∙ (same h.0).0)
       (ap (λ (s : ServiceView P). sessions_in s.slab) h.2 ∙ (same h.0).1)
       (ap (λ (s : ServiceView P). pending_in s.slab) h.2 ∙ (same h.0).2)
@@ -308,13 +308,13 @@ module _ {P : Type 0} (port_transition : P → PortCall → P → Type 0) where
       same true = (refl, refl, refl)
       same false = (refl, refl, refl)
 
-  turned_counts : (old : ServiceView P) (place turns : ℕ) (answers : List (SystemCall P)) (new : ServiceView P) →
-      TurnsAndLeaves port_transition old place turns answers new → Counts answers old new
-  turned_counts old place turns answers new h =
+  turned_counts : (old : ServiceView P) (place turns : ℕ) (trace : List (SystemCall P)) (new : ServiceView P) →
+      TurnsAndLeaves port_transition old place turns trace new → Counts trace old new
+  turned_counts old place turns trace new h =
       let mid : ServiceView P = record old { slab = h.turned } in
       let made = h.takes.made in
       let same = turns_counts turns old.slab place h.turning h.turned made in
-      counts_then answers h.turning h.leaving old mid new h.asked
+      counts_then trace h.turning h.leaving old mid new h.asked
       (same_counts h.turning old mid
       (turns_none port_transition comes (λ place before after. refl) turns old.slab place h.turning h.turned made)
       (turns_none port_transition connects (λ place before after. refl) turns old.slab place h.turning h.turned made)
@@ -324,31 +324,31 @@ module _ {P : Type 0} (port_transition : P → PortCall → P → Type 0) where
       (leave_counts (is_closed h.now.0) h.now mid place h.leaving new h.there h.leaves)
 
   pub visit_counts : (at : Option (SlabPlace (SessionView × QuotaPortsView P))) (old : ServiceView P) (place turns : ℕ)
-      (answers : List (SystemCall P)) (new : ServiceView P) → slice_get old.slab.places place ≡ at →
-      VisitsBy port_transition at old place turns answers new → Counts answers old new
-  visit_counts None old place turns answers new there h =
+      (trace : List (SystemCall P)) (new : ServiceView P) → slice_get old.slab.places place ≡ at →
+      VisitsBy port_transition at old place turns trace new → Counts trace old new
+  visit_counts None old place turns trace new there h =
       subst (λ (l : List (SystemCall P)). Counts l old new) (sym h.1)
       (subst (λ (s : ServiceView P). Counts [] old s) (sym h.2) (same_counts [] old old refl refl refl refl refl refl refl))
-  visit_counts (Some Free) old place turns answers new there h =
+  visit_counts (Some Free) old place turns trace new there h =
       subst (λ (l : List (SystemCall P)). Counts l old new) (sym h.1)
       (subst (λ (s : ServiceView P). Counts [] old s) (sym h.2) (same_counts [] old old refl refl refl refl refl refl refl))
-  visit_counts (Some Kept) old place turns answers new there h = by h.0 h.1 h.2 h.3
+  visit_counts (Some Kept) old place turns trace new there h = by h.0 h.1 h.2 h.3
     where
-      by : (connect : Connect P) (told : List (SystemCall P)) → answers ≡ Connects place connect ∷ told →
-          MeetsBy port_transition connect old place turns told new → Counts answers old new
-      by (Ready ports) told e m =
+      by : (connect : Connect P) (joining : List (SystemCall P)) → trace ≡ Connects place connect ∷ joining →
+          JoinsBy port_transition connect old place turns joining new → Counts trace old new
+      by (Ready ports) joining e m =
           let mid : ServiceView P = record old { slab = m.0 } in
           let opens = m.1 in
           let sessions = set_count is_held old.slab.places place Kept (Held (opens.0, fresh ports old.counters.turns)) there in
           let pending = set_count is_kept old.slab.places place Kept (Held (opens.0, fresh ports old.counters.turns)) there in
           let now = ap (λ (s : SlabView (QuotaPortsView P)). sessions_in s) opens.2 in
           let left = ap (λ (s : SlabView (QuotaPortsView P)). pending_in s) opens.2 in
-          counts_then answers (Connects place (Ready ports) ∷ []) told old mid new e (record {
+          counts_then trace (Connects place (Ready ports) ∷ []) joining old mid new e (record {
             came = omega arith;
             held = omega (arith, sessions, now);
             met = omega (arith, pending, left);
-          }) (turned_counts mid place turns told new m.2)
-      by Failed told e m =
+          }) (turned_counts mid place turns joining new m.2)
+      by Failed joining e m =
           let sessions = set_count is_held old.slab.places place Kept Free there in
           let pending = set_count is_kept old.slab.places place Kept Free there in
           subst (λ (l : List (SystemCall P)). Counts l old new) (sym (e ∙ ap (λ (l : List (SystemCall P)). Connects place Failed ∷ l) m.1))
@@ -357,20 +357,20 @@ module _ {P : Type 0} (port_transition : P → PortCall → P → Type 0) where
             held = omega (arith, sessions);
             met = omega (arith, pending);
           }))
-      by Pending told e m =
+      by Pending joining e m =
           subst (λ (l : List (SystemCall P)). Counts l old new) (sym (e ∙ ap (λ (l : List (SystemCall P)). Connects place Pending ∷ l) m.1))
           (subst (λ (s : ServiceView P). Counts (Connects place Pending ∷ []) old s) (sym m.2)
           (same_counts (Connects place Pending ∷ []) old old refl refl refl refl refl refl refl))
-  visit_counts (Some (Held now)) old place turns answers new there h = turned_counts old place turns answers new h
+  visit_counts (Some (Held now)) old place turns trace new there h = turned_counts old place turns trace new h
 
-  pub visits_counts : (visited : List ℕ) (turns : ℕ) (old : ServiceView P) (answers : List (SystemCall P)) (new : ServiceView P) →
-      Visits port_transition visited turns old answers new → Counts answers old new
-  visits_counts [] turns old answers new h =
+  pub visits_counts : (visited : List ℕ) (turns : ℕ) (old : ServiceView P) (trace : List (SystemCall P)) (new : ServiceView P) →
+      Visits port_transition visited turns old trace new → Counts trace old new
+  visits_counts [] turns old trace new h =
       subst (λ (l : List (SystemCall P)). Counts l old new) (sym h.1)
       (subst (λ (s : ServiceView P). Counts [] old s) (sym h.2) (same_counts [] old old refl refl refl refl refl refl refl))
-  visits_counts (place ∷ earlier) turns old answers new h =
+  visits_counts (place ∷ earlier) turns old trace new h =
       let mid : ServiceView P = record h.0 { ready = h.8.ready } in
       let before = visits_counts earlier h.1 old h.3 h.0 h.7 in
-      counts_then answers h.3 h.4 old mid new h.6
+      counts_then trace h.3 h.4 old mid new h.6
       (record { came = before.came; held = before.held; met = before.met })
       (visit_counts (slice_get mid.slab.places place) mid place h.2 h.4 new refl h.8.visits)

@@ -14,11 +14,11 @@ use Rattle.daide_driver.specs.declared.place.SlabPlace.{SlabPlace}
 use Rattle.daide_driver.specs.declared.place.SlabPlace.TheVariants.{Free, Kept, Held}
 use Rattle.daide_driver.specs.Slab.{SlabView}
 use Rattle.daide_event_loop.specs.QuotaPorts.{QuotaPortsView, beginning_where}
-use Rattle.daide_event_loop.specs.Serving.{ServiceView, TurnsInRow, LeavesVisit, TurnsAndLeaves, end_of, opening, MeetsBy, VisitsBy, Visits, has_room}
+use Rattle.daide_event_loop.specs.Serving.{ServiceView, TurnsInRow, LeavesVisit, TurnsAndLeaves, end_of, opening, JoinsBy, VisitsBy, Visits, has_room}
 use Rattle.daide_event_loop.specs.Serving.{Admits, accepted_at, polled}
 use Rattle.daide_event_loop.specs.Served.{sum_over_calls}
 use Rattle.daide_event_loop.specs.Fairness.{RoundsAreShort, IsBehind, ReadyPlacesAdvance, turn_calls}
-use Rattle.daide_event_loop.proofs.CountLemmas.{counted_append, parts_count, none_shown, parting_count, rests_none}
+use Rattle.daide_event_loop.proofs.CountLemmas.{counted_append, parts_count, none_shown, retirement_count, rests_none}
 use Rattle.daide_event_loop.proofs.OrderLemmas.{admission_none}
 use Rattle.daide_event_loop.proofs.VisitLemmas.{visit_turns}
 
@@ -56,9 +56,9 @@ module _ {P : Type 0} (port_transition : P → PortCall → P → Type 0) where
   abbrev pub Rejoins : ℕ → ReadyView → ReadyView → Type 0
   Rejoins place old new = (new ≡ old) ⊎ (new ≡ put_back old place)
 
-  turned_queue : (old : ServiceView P) (place turns : ℕ) (answers : List (SystemCall P)) (new : ServiceView P) →
-      TurnsAndLeaves port_transition old place turns answers new → Rejoins place old.ready new.ready
-  turned_queue old place turns answers new h = by (is_closed h.now.0) h.leaves
+  turned_queue : (old : ServiceView P) (place turns : ℕ) (trace : List (SystemCall P)) (new : ServiceView P) →
+      TurnsAndLeaves port_transition old place turns trace new → Rejoins place old.ready new.ready
+  turned_queue old place turns trace new h = by (is_closed h.now.0) h.leaves
     where
       rested : (rests : Bool) (mid : ServiceView P) → mid.ready ≡ old.ready →
           new ≡ (if rests then mid else record mid { ready = put_back mid.ready place }) → Rejoins place old.ready new.ready
@@ -72,18 +72,18 @@ module _ {P : Type 0} (port_transition : P → PortCall → P → Type 0) where
       by true l = inl (ap (λ (s : ServiceView P). s.ready) l.1)
       by false l = rested l.0 (record old { slab = h.turned }) refl l.2
 
-  pub visited_queue : (at : Option (SlabPlace (SessionView × QuotaPortsView P))) (old : ServiceView P) (place turns : ℕ) (answers : List (SystemCall P))
-      (new : ServiceView P) → VisitsBy port_transition at old place turns answers new → Rejoins place old.ready new.ready
-  visited_queue None old place turns answers new h = inl (ap (λ (s : ServiceView P). s.ready) h.2)
-  visited_queue (Some Free) old place turns answers new h = inl (ap (λ (s : ServiceView P). s.ready) h.2)
-  visited_queue (Some Kept) old place turns answers new h = by h.0 h.1 h.3
+  pub visited_queue : (at : Option (SlabPlace (SessionView × QuotaPortsView P))) (old : ServiceView P) (place turns : ℕ) (trace : List (SystemCall P))
+      (new : ServiceView P) → VisitsBy port_transition at old place turns trace new → Rejoins place old.ready new.ready
+  visited_queue None old place turns trace new h = inl (ap (λ (s : ServiceView P). s.ready) h.2)
+  visited_queue (Some Free) old place turns trace new h = inl (ap (λ (s : ServiceView P). s.ready) h.2)
+  visited_queue (Some Kept) old place turns trace new h = by h.0 h.1 h.3
     where
-      by : (connect : Connect P) (told : List (SystemCall P)) → MeetsBy port_transition connect old place turns told new →
+      by : (connect : Connect P) (joining : List (SystemCall P)) → JoinsBy port_transition connect old place turns joining new →
           Rejoins place old.ready new.ready
-      by (Ready ports) told m = turned_queue (record old { slab = m.0 }) place turns told new m.2
-      by Failed told m = inl (ap (λ (s : ServiceView P). s.ready) m.2)
-      by Pending told m = inl (ap (λ (s : ServiceView P). s.ready) m.2)
-  visited_queue (Some (Held now)) old place turns answers new h = turned_queue old place turns answers new h
+      by (Ready ports) joining m = turned_queue (record old { slab = m.0 }) place turns joining new m.2
+      by Failed joining m = inl (ap (λ (s : ServiceView P). s.ready) m.2)
+      by Pending joining m = inl (ap (λ (s : ServiceView P). s.ready) m.2)
+  visited_queue (Some (Held now)) old place turns trace new h = turned_queue old place turns trace new h
 
   -- ---- the places of the queue in a visit
 
@@ -163,10 +163,10 @@ module _ {P : Type 0} (port_transition : P → PortCall → P → Type 0) where
   -- ---- the visits of a round
 
   -- their turns
-  visits_short : (visited : List ℕ) (turns : ℕ) (old : ServiceView P) (answers : List (SystemCall P)) (new : ServiceView P) →
-      Visits port_transition visited turns old answers new → turns ≤ 32
-  visits_short [] turns old answers new h = let none = h.0 in omega (arith, none)
-  visits_short (place ∷ earlier) turns old answers new h =
+  visits_short : (visited : List ℕ) (turns : ℕ) (old : ServiceView P) (trace : List (SystemCall P)) (new : ServiceView P) →
+      Visits port_transition visited turns old trace new → turns ≤ 32
+  visits_short [] turns old trace new h = let none = h.0 in omega (arith, none)
+  visits_short (place ∷ earlier) turns old trace new h =
       let sum = h.5 in
       let room = room_left h.1 h.8.room in
       let few = (visit_turns port_transition _ _ place h.2 h.4 new h.8.visits).1 in
@@ -177,11 +177,11 @@ module _ {P : Type 0} (port_transition : P → PortCall → P → Type 0) where
   begin_calls None place before after = omega arith
   begin_calls (Some turns) place before after = omega arith
 
-  turns_calls : (n : ℕ) (old : SlabView (QuotaPortsView P)) (place : ℕ) (answers : List (SystemCall P))
-      (new : SlabView (QuotaPortsView P)) → TurnsInRow port_transition n old place answers new → sum_over_calls turn_calls answers ≤ n
-  turns_calls zero old place answers new h = let none = ap (sum_over_calls turn_calls) h.0 in omega (arith, none)
-  turns_calls (suc n) old place answers new h =
-      let all = parts_count turn_calls answers h.1 h.2 h.3 in
+  turns_calls : (n : ℕ) (old : SlabView (QuotaPortsView P)) (place : ℕ) (trace : List (SystemCall P))
+      (new : SlabView (QuotaPortsView P)) → TurnsInRow port_transition n old place trace new → sum_over_calls turn_calls trace ≤ n
+  turns_calls zero old place trace new h = let none = ap (sum_over_calls turn_calls) h.0 in omega (arith, none)
+  turns_calls (suc n) old place trace new h =
+      let all = parts_count turn_calls trace h.1 h.2 h.3 in
       let before = turns_calls n old place h.1 h.0 h.4 in
       let begins = h.6.begins in
       let last = ap (sum_over_calls turn_calls) begins.4.1 in
@@ -189,53 +189,53 @@ module _ {P : Type 0} (port_transition : P → PortCall → P → Type 0) where
       omega (arith, all, before, last, one)
 
   leave_calls : (closed : Bool) (now : SessionView × QuotaPortsView P) (old : ServiceView P) (place : ℕ)
-      (answers : List (SystemCall P)) (new : ServiceView P) → LeavesVisit closed now old place answers new →
-      sum_over_calls turn_calls answers ≡ 0
-  leave_calls true now old place answers new h =
-      ap (sum_over_calls turn_calls) h.0 ∙ parting_count port_transition turn_calls (λ notice. refl) place now.1 (end_of now)
-  leave_calls false now old place answers new h =
-      rests_none port_transition turn_calls (λ place ports rests. refl) now.1.made_progress place now.1.ports answers h.0 h.1
+      (trace : List (SystemCall P)) (new : ServiceView P) → LeavesVisit closed now old place trace new →
+      sum_over_calls turn_calls trace ≡ 0
+  leave_calls true now old place trace new h =
+      ap (sum_over_calls turn_calls) h.0 ∙ retirement_count port_transition turn_calls (λ notice. refl) place now.1 (end_of now)
+  leave_calls false now old place trace new h =
+      rests_none port_transition turn_calls (λ place ports rests. refl) now.1.made_progress place now.1.ports trace h.0 h.1
 
-  given_calls : (old : ServiceView P) (place turns : ℕ) (answers : List (SystemCall P)) (new : ServiceView P) →
-      TurnsAndLeaves port_transition old place turns answers new → sum_over_calls turn_calls answers ≤ turns
-  given_calls old place turns answers new h =
-      let all = parts_count turn_calls answers h.turning h.leaving h.asked in
+  given_calls : (old : ServiceView P) (place turns : ℕ) (trace : List (SystemCall P)) (new : ServiceView P) →
+      TurnsAndLeaves port_transition old place turns trace new → sum_over_calls turn_calls trace ≤ turns
+  given_calls old place turns trace new h =
+      let all = parts_count turn_calls trace h.turning h.leaving h.asked in
       let made = turns_calls turns old.slab place h.turning h.turned h.takes.made in
       let none = leave_calls (is_closed h.now.0) h.now (record old { slab = h.turned }) place h.leaving new h.leaves in
       omega (arith, all, made, none)
 
   visit_calls : (at : Option (SlabPlace (SessionView × QuotaPortsView P))) (old : ServiceView P) (place turns : ℕ)
-      (answers : List (SystemCall P)) (new : ServiceView P) → VisitsBy port_transition at old place turns answers new →
-      sum_over_calls turn_calls answers ≤ turns
-  visit_calls None old place turns answers new h = let none = ap (sum_over_calls turn_calls) h.1 in omega (arith, none)
-  visit_calls (Some Free) old place turns answers new h = let none = ap (sum_over_calls turn_calls) h.1 in omega (arith, none)
-  visit_calls (Some Kept) old place turns answers new h =
+      (trace : List (SystemCall P)) (new : ServiceView P) → VisitsBy port_transition at old place turns trace new →
+      sum_over_calls turn_calls trace ≤ turns
+  visit_calls None old place turns trace new h = let none = ap (sum_over_calls turn_calls) h.1 in omega (arith, none)
+  visit_calls (Some Free) old place turns trace new h = let none = ap (sum_over_calls turn_calls) h.1 in omega (arith, none)
+  visit_calls (Some Kept) old place turns trace new h =
       let all = ap (sum_over_calls turn_calls) h.2 in
       let rest = by h.0 h.1 h.3 in
       omega (arith, all, rest)
     where
-      by : (connect : Connect P) (told : List (SystemCall P)) → MeetsBy port_transition connect old place turns told new →
-          sum_over_calls turn_calls told ≤ turns
-      by (Ready ports) told m = given_calls (record old { slab = m.0 }) place turns told new m.2
-      by Failed told m = let none = ap (sum_over_calls turn_calls) m.1 in omega (arith, none)
-      by Pending told m = let none = ap (sum_over_calls turn_calls) m.1 in omega (arith, none)
-  visit_calls (Some (Held now)) old place turns answers new h = given_calls old place turns answers new h
+      by : (connect : Connect P) (joining : List (SystemCall P)) → JoinsBy port_transition connect old place turns joining new →
+          sum_over_calls turn_calls joining ≤ turns
+      by (Ready ports) joining m = given_calls (record old { slab = m.0 }) place turns joining new m.2
+      by Failed joining m = let none = ap (sum_over_calls turn_calls) m.1 in omega (arith, none)
+      by Pending joining m = let none = ap (sum_over_calls turn_calls) m.1 in omega (arith, none)
+  visit_calls (Some (Held now)) old place turns trace new h = given_calls old place turns trace new h
 
-  visits_calls : (visited : List ℕ) (turns : ℕ) (old : ServiceView P) (answers : List (SystemCall P)) (new : ServiceView P) →
-      Visits port_transition visited turns old answers new → sum_over_calls turn_calls answers ≤ turns
-  visits_calls [] turns old answers new h = let none = ap (sum_over_calls turn_calls) h.1 in omega (arith, none)
-  visits_calls (place ∷ earlier) turns old answers new h =
+  visits_calls : (visited : List ℕ) (turns : ℕ) (old : ServiceView P) (trace : List (SystemCall P)) (new : ServiceView P) →
+      Visits port_transition visited turns old trace new → sum_over_calls turn_calls trace ≤ turns
+  visits_calls [] turns old trace new h = let none = ap (sum_over_calls turn_calls) h.1 in omega (arith, none)
+  visits_calls (place ∷ earlier) turns old trace new h =
       let sum = h.5 in
-      let all = parts_count turn_calls answers h.3 h.4 h.6 in
+      let all = parts_count turn_calls trace h.3 h.4 h.6 in
       let before = visits_calls earlier h.1 old h.3 h.0 h.7 in
       let last = visit_calls (slice_get h.0.slab.places place) (record h.0 { ready = h.8.ready }) place h.2 h.4 new h.8.visits in
       omega (arith, sum, all, before, last)
 
   pub rounds_are_short : RoundsAreShort port_transition
-  rounds_are_short old new answers round =
+  rounds_are_short old new trace round =
       let start = polled round.woken round.orders old in
       let opens = opening round.woken round.orders old in
-      let all = parts_count turn_calls answers (opens ++ round.visiting) round.admission round.asked in
+      let all = parts_count turn_calls trace (opens ++ round.visiting) round.admission round.asked in
       let both = counted_append turn_calls opens round.visiting in
       let shown = none_shown turn_calls round.orders.shows_sessions old.slab.places (λ ports status. refl) in
       let begun = visits_calls round.visits.visited round.visits.turns start round.visiting round.mid round.visits.takes in
@@ -248,10 +248,10 @@ module _ {P : Type 0} (port_transition : P → PortCall → P → Type 0) where
   FreshSoFar visited turns queue k place = Contains visited place
       ⊎ ((j : ℕ) × (j ≤ k) × ((j + 3 ≤ k) ⊎ (turns ≤ 8 * (k - j))) × IsBehind queue.fresh j place)
 
-  fresh_advances : (visited : List ℕ) (turns : ℕ) (old : ServiceView P) (answers : List (SystemCall P)) (new : ServiceView P)
-      (k place : ℕ) → Visits port_transition visited turns old answers new → IsBehind old.ready.fresh k place →
+  fresh_advances : (visited : List ℕ) (turns : ℕ) (old : ServiceView P) (trace : List (SystemCall P)) (new : ServiceView P)
+      (k place : ℕ) → Visits port_transition visited turns old trace new → IsBehind old.ready.fresh k place →
       FreshSoFar visited turns new.ready k place
-  fresh_advances [] turns old answers new k place h at =
+  fresh_advances [] turns old trace new k place h at =
       let none = h.0 in
       inr (
         k,
@@ -259,7 +259,7 @@ module _ {P : Type 0} (port_transition : P → PortCall → P → Type 0) where
         inr (omega (arith, none)),
         subst (λ (s : ServiceView P). IsBehind s.ready.fresh k place) (sym h.2) at,
       )
-  fresh_advances (other ∷ earlier) turns old answers new k place h at =
+  fresh_advances (other ∷ earlier) turns old trace new k place h at =
       ⊎_elim (λ (c : Contains earlier place). inl (Contains-append_right (other ∷ []) earlier place c)) step
       (fresh_advances earlier h.1 old h.3 h.0 k place h.7 at)
     where
@@ -301,10 +301,10 @@ module _ {P : Type 0} (port_transition : P → PortCall → P → Type 0) where
   MovingSoFar visited turns queue k place = Contains visited place
       ⊎ ((j : ℕ) × (j ≤ k) × ((j < k) ⊎ (turns ≤ 24)) × IsBehind queue.moving j place)
 
-  moving_advances : (visited : List ℕ) (turns : ℕ) (old : ServiceView P) (answers : List (SystemCall P)) (new : ServiceView P)
-      (k place : ℕ) → Visits port_transition visited turns old answers new → IsBehind old.ready.moving k place →
+  moving_advances : (visited : List ℕ) (turns : ℕ) (old : ServiceView P) (trace : List (SystemCall P)) (new : ServiceView P)
+      (k place : ℕ) → Visits port_transition visited turns old trace new → IsBehind old.ready.moving k place →
       MovingSoFar visited turns new.ready k place
-  moving_advances [] turns old answers new k place h at =
+  moving_advances [] turns old trace new k place h at =
       let none = h.0 in
       inr (
         k,
@@ -312,7 +312,7 @@ module _ {P : Type 0} (port_transition : P → PortCall → P → Type 0) where
         inr (omega (arith, none)),
         subst (λ (s : ServiceView P). IsBehind s.ready.moving k place) (sym h.2) at,
       )
-  moving_advances (other ∷ earlier) turns old answers new k place h at =
+  moving_advances (other ∷ earlier) turns old trace new k place h at =
       ⊎_elim (λ (c : Contains earlier place). inl (Contains-append_right (other ∷ []) earlier place c)) step
       (moving_advances earlier h.1 old h.3 h.0 k place h.7 at)
     where
@@ -377,22 +377,22 @@ module _ {P : Type 0} (port_transition : P → PortCall → P → Type 0) where
   woken_moving true queue other k place h = h
   woken_moving false queue other k place h = h
 
-  admitted_fresh : (old : ServiceView P) (answers : List (SystemCall P)) (new : ServiceView P) (k place : ℕ) →
-      Admits old answers new → IsBehind old.ready.fresh k place → IsBehind new.ready.fresh k place
-  admitted_fresh old answers new k place (inr none) h =
+  admitted_fresh : (old : ServiceView P) (trace : List (SystemCall P)) (new : ServiceView P) (k place : ℕ) →
+      Admits old trace new → IsBehind old.ready.fresh k place → IsBehind new.ready.fresh k place
+  admitted_fresh old trace new k place (inr none) h =
       subst (λ (s : ServiceView P). IsBehind s.ready.fresh k place) (sym none.2) h
-  admitted_fresh old answers new k place (inl asks) h =
+  admitted_fresh old trace new k place (inl asks) h =
       subst (λ (s : ServiceView P). IsBehind s.ready.fresh k place) (sym asks.then_kept) (by asks.came)
     where
       by : (came : Bool) → IsBehind (if came then accepted_at old asks.place else old).ready.fresh k place
       by true = woken_fresh (may_join old.ready asks.place) old.ready asks.place k place h
       by false = h
 
-  admitted_moving : (old : ServiceView P) (answers : List (SystemCall P)) (new : ServiceView P) (k place : ℕ) →
-      Admits old answers new → IsBehind old.ready.moving k place → IsBehind new.ready.moving k place
-  admitted_moving old answers new k place (inr none) h =
+  admitted_moving : (old : ServiceView P) (trace : List (SystemCall P)) (new : ServiceView P) (k place : ℕ) →
+      Admits old trace new → IsBehind old.ready.moving k place → IsBehind new.ready.moving k place
+  admitted_moving old trace new k place (inr none) h =
       subst (λ (s : ServiceView P). IsBehind s.ready.moving k place) (sym none.2) h
-  admitted_moving old answers new k place (inl asks) h =
+  admitted_moving old trace new k place (inl asks) h =
       subst (λ (s : ServiceView P). IsBehind s.ready.moving k place) (sym asks.then_kept) (by asks.came)
     where
       by : (came : Bool) → IsBehind (if came then accepted_at old asks.place else old).ready.moving k place
@@ -408,7 +408,7 @@ module _ {P : Type 0} (port_transition : P → PortCall → P → Type 0) where
       by false e = room_gone turns e
 
   pub ready_places_advance : ReadyPlacesAdvance port_transition
-  ready_places_advance old new answers round place k =
+  ready_places_advance old new trace round place k =
       let visits = round.visits in
       let start = polled round.woken round.orders old in
       record {

@@ -47,15 +47,15 @@ module _ {P : Type 0} (port_transition : P → PortCall → P → Type 0) where
   still : MovesAreAnswered port_transition → (old mid new : SessionView × QuotaPortsView P) → IsBegun (Meters port_transition) old mid →
       (turn : IsTurned (Meters port_transition) mid new) → turn.exchange.call ≡ Clock NoEvent ∷ [] → new.1.made_progress ≡ false
   still law old mid new begins turn is =
-      law old mid new begins turn ∙ ap (λ (answers : List PortCall). progress_by answers false) is
+      law old mid new begins turn ∙ ap (λ (trace : List PortCall). progress_by trace false) is
 
   -- after one round that left no session and no pending connect, each accepted bot was retired, or its server was unreachable
-  one_round : SessionsAreServed port_transition → (settings : Settings) (answers : List (SystemCall P)) (run : ServiceView P) →
-      Rounds port_transition 1 (initial_service settings) answers run → pending_in run.slab ≡ 0 → sessions_in run.slab ≡ 0 →
-      (run.counters.accepted ≡ sum_over_calls comes answers)
-      × (sum_over_calls comes answers ≡ sum_over_calls retires answers + sum_over_calls unreached answers)
-  one_round law settings answers run rounds none empty =
-      let served = law settings 1 answers run rounds in
+  one_round : SessionsAreServed port_transition → (settings : Settings) (trace : List (SystemCall P)) (run : ServiceView P) →
+      Rounds port_transition 1 (initial_service settings) trace run → pending_in run.slab ≡ 0 → sessions_in run.slab ≡ 0 →
+      (run.counters.accepted ≡ sum_over_calls comes trace)
+      × (sum_over_calls comes trace ≡ sum_over_calls retires trace + sum_over_calls unreached trace)
+  one_round law settings trace run rounds none empty =
+      let served = law settings 1 trace run rounds in
       let joined = served.2 in
       let came = served.4 in
       (served.3, omega (arith, joined, came, none, empty))
@@ -101,28 +101,28 @@ module _ {P : Type 0} (port_transition : P → PortCall → P → Type 0) where
   -- ---- fairness
 
   -- in no round do 33 turns begin
-  no_more_turns : RoundsAreShort port_transition → (old new : ServiceView P) (answers : List (SystemCall P)) →
-      Round port_transition old answers new → sum_over_calls turn_calls answers ≡ 33 → ⊥
-  no_more_turns law old new answers round many =
-      let short = law old new answers round in
+  no_more_turns : RoundsAreShort port_transition → (old new : ServiceView P) (trace : List (SystemCall P)) →
+      Round port_transition old trace new → sum_over_calls turn_calls trace ≡ 33 → ⊥
+  no_more_turns law old new trace round many =
+      let short = law old new trace round in
       absurd (omega (arith, short, many))
 
   -- the third of the places that were at rest is visited in the round, and so is the first of those that had turns
-  third_is_visited : ReadyPlacesAdvance port_transition → (old new : ServiceView P) (answers : List (SystemCall P))
-      (round : Round port_transition old answers new) (place : ℕ) →
+  third_is_visited : ReadyPlacesAdvance port_transition → (old new : ServiceView P) (trace : List (SystemCall P))
+      (round : Round port_transition old trace new) (place : ℕ) →
       slice_get (polled round.woken round.orders old).ready.fresh 2 ≡ Some place → Contains round.visits.visited place
-  third_is_visited law old new answers round place there =
+  third_is_visited law old new trace round place there =
       ⊎_elim (λ (c : Contains round.visits.visited place). c)
       (λ (l : (left : ℕ) × (left + 3 ≤ 2) × (slice_get new.ready.fresh left ≡ Some place)). let less = l.1 in absurd (omega (arith, less)))
-      ((law old new answers round place 2).fresh there)
+      ((law old new trace round place 2).fresh there)
 
-  first_is_visited : ReadyPlacesAdvance port_transition → (old new : ServiceView P) (answers : List (SystemCall P))
-      (round : Round port_transition old answers new) (place : ℕ) →
+  first_is_visited : ReadyPlacesAdvance port_transition → (old new : ServiceView P) (trace : List (SystemCall P))
+      (round : Round port_transition old trace new) (place : ℕ) →
       slice_get (polled round.woken round.orders old).ready.moving 0 ≡ Some place → Contains round.visits.visited place
-  first_is_visited law old new answers round place there =
+  first_is_visited law old new trace round place there =
       ⊎_elim (λ (c : Contains round.visits.visited place). c)
       (λ (l : (left : ℕ) × (left < 0) × (slice_get new.ready.moving left ≡ Some place)). let less = l.1 in absurd (omega (arith, less)))
-      ((law old new answers round place 0).moving there)
+      ((law old new trace round place 0).moving there)
 
 -- ---- rest
 
@@ -204,9 +204,9 @@ other_crowd settings = record { limits = refl; turns = refl }
 
 -- a session alone and one among 256, of which two bytes were taken: they are the same bytes, and the same ends
 alone_or_not : {P Q : Type 0} (port_transition : P → PortCall → P → Type 0) (other_transition : Q → PortCall → Q → Type 0) →
-    SessionsAreIndependent port_transition other_transition → (settings : Settings) (answers : List (SystemCall P))
+    SessionsAreIndependent port_transition other_transition → (settings : Settings) (trace : List (SystemCall P))
     (others : List (SystemCall Q)) (now : SessionView × QuotaPortsView P) (then : SessionView × QuotaPortsView Q)
-    (alone : IsServed port_transition settings answers now)
+    (alone : IsServed port_transition settings trace now)
     (crowded : IsServed other_transition (crowded_by settings) others then)
     (a b c d : ℕ) →
     alone.history ≡ TurnBegins ∷ Clock NoEvent ∷ Offered Server (a ∷ b ∷ []) (Took 2) ∷ Pulled Bot 4 Idle [] ∷ [] →
@@ -214,9 +214,9 @@ alone_or_not : {P Q : Type 0} (port_transition : P → PortCall → P → Type 0
     (a ∷ b ∷ [] ≡ c ∷ d ∷ []) × (now.0.state ≡ then.0.state) × (now.0.account ≡ then.0.account)
     × ((end last : SessionEnd) → IsEndOf (run_limits settings) settings.turns alone.history now.0 end →
     IsEndOf (run_limits settings) settings.turns crowded.history then.0 last → end ≡ last)
-alone_or_not port_transition other_transition law settings answers others now then alone crowded a b c d one other =
+alone_or_not port_transition other_transition law settings trace others now then alone crowded a b c d one other =
     let same = ap results_of one ∙ sym (ap results_of other) in
-    let both = law settings (crowded_by settings) answers others now then alone crowded
+    let both = law settings (crowded_by settings) trace others now then alone crowded
     (other_crowd settings) same in
     let first = ap (taken Server) one in
     let second = ap (taken Server) other in

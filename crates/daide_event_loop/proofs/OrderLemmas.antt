@@ -19,7 +19,7 @@ use Rattle.daide_event_loop.specs.declared.admission_counters.AdmissionCounters.
 use Rattle.daide_event_loop.specs.QuotaPorts.{QuotaPortsView}
 use Rattle.daide_event_loop.specs.Serving.{ServiceView, initial_service, closed, heeding, opening, polled, shows_where, have_all_come}
 use Rattle.daide_settings.specs.BotsInAll.{bots_in_all}
-use Rattle.daide_event_loop.specs.Serving.{LeavesVisit, TurnsAndLeaves, MeetsBy, VisitsBy, Visits, queued_again, accepted_at, Admits, Round}
+use Rattle.daide_event_loop.specs.Serving.{LeavesVisit, TurnsAndLeaves, JoinsBy, VisitsBy, Visits, queued_again, accepted_at, Admits, Round}
 use Rattle.daide_event_loop.specs.Served.{sum_over_calls, accept_calls, show_calls, orders_with, stop_orders, show_orders, HeedsStops, HeedsOrders}
 use Rattle.daide_event_loop.proofs.CountLemmas.{counted_append, parts_count, none_shown, IsOfOpening, visits_none}
 
@@ -68,10 +68,10 @@ module _ {P : Type 0} where
   -- ---- after a stop
 
   -- no order, so nothing to heed
-  none_to_heed : (answers : List (SystemCall P)) → stop_orders answers ≡ 0 → HeedsStops answers
+  none_to_heed : (trace : List (SystemCall P)) → stop_orders trace ≡ 0 → HeedsStops trace
   none_to_heed [] none = tt
-  none_to_heed (answer ∷ answers) none =
-      (λ some. absurd (omega (arith, none, some)), none_to_heed answers (omega (arith, none)))
+  none_to_heed (call ∷ trace) none =
+      (λ some. absurd (omega (arith, none, some)), none_to_heed trace (omega (arith, none)))
 
   -- a longer trace, in whose second part accept is not called if the first part has an order to stop
   heeds_then : (xs ys : List (SystemCall P)) → HeedsStops xs → HeedsStops ys →
@@ -87,26 +87,26 @@ module _ {P : Type 0} where
 
   -- an admission gives no order, and shows nothing
   pub admission_none : (count : SystemCall P → ℕ) → ((place : ℕ) (came : Bool) → count (Accepts place came) ≡ 0) →
-      (old : ServiceView P) (answers : List (SystemCall P)) (new : ServiceView P) → Admits old answers new →
-      sum_over_calls count answers ≡ 0
-  admission_none count none old answers new (inl asks) =
+      (old : ServiceView P) (trace : List (SystemCall P)) (new : ServiceView P) → Admits old trace new →
+      sum_over_calls count trace ≡ 0
+  admission_none count none old trace new (inl asks) =
       let all = ap (sum_over_calls count) asks.asked in
       let own = none asks.place asks.came in
       omega (arith, all, own)
-  admission_none count none old answers new (inr rests) = ap (sum_over_calls count) rests.1
+  admission_none count none old trace new (inr rests) = ap (sum_over_calls count) rests.1
 
   -- if all bots came, accept is not called
-  admission_over : (old : ServiceView P) (answers : List (SystemCall P)) (new : ServiceView P) → Admits old answers new →
-      old.counters.sessions ≡ old.counters.accepted → (sum_over_calls accept_calls answers ≡ 0) × (new ≡ old)
-  admission_over old answers new (inl asks) all =
+  admission_over : (old : ServiceView P) (trace : List (SystemCall P)) (new : ServiceView P) → Admits old trace new →
+      old.counters.sessions ≡ old.counters.accepted → (sum_over_calls accept_calls trace ≡ 0) × (new ≡ old)
+  admission_over old trace new (inl asks) all =
       absurd (eqb-false old.counters.accepted old.counters.sessions asks.due (sym all))
-  admission_over old answers new (inr rests) all = (ap (sum_over_calls accept_calls) rests.1, rests.2)
+  admission_over old trace new (inr rests) all = (ap (sum_over_calls accept_calls) rests.1, rests.2)
 
   -- the limit of bots in all is the one after the orders, and is not exceeded
-  admission_limit : (old : ServiceView P) (answers : List (SystemCall P)) (new : ServiceView P) → Admits old answers new →
+  admission_limit : (old : ServiceView P) (trace : List (SystemCall P)) (new : ServiceView P) → Admits old trace new →
       old.counters.accepted ≤ old.counters.sessions →
       (new.counters.sessions ≡ old.counters.sessions) × (new.counters.accepted ≤ new.counters.sessions)
-  admission_limit old answers new (inl asks) within =
+  admission_limit old trace new (inl asks) within =
       subst (λ (s : ServiceView P). (s.counters.sessions ≡ old.counters.sessions) × (s.counters.accepted ≤ s.counters.sessions))
       (sym asks.then_kept) (by asks.came)
     where
@@ -116,58 +116,58 @@ module _ {P : Type 0} where
           ≤ (if came then accepted_at old asks.place else old).counters.sessions)
       by true = let apart = eqb-false old.counters.accepted old.counters.sessions asks.due in (refl, omega (arith, within, apart))
       by false = (refl, within)
-  admission_limit old answers new (inr rests) within =
+  admission_limit old trace new (inr rests) within =
       subst (λ (s : ServiceView P). (s.counters.sessions ≡ old.counters.sessions) × (s.counters.accepted ≤ s.counters.sessions))
       (sym rests.2) (refl, within)
 
 -- visits change no counter
 module _ {P : Type 0} (port_transition : P → PortCall → P → Type 0) where
   leave_counters : (closed : Bool) (now : SessionView × QuotaPortsView P) (old : ServiceView P) (place : ℕ)
-      (answers : List (SystemCall P)) (new : ServiceView P) → LeavesVisit closed now old place answers new → new.counters ≡ old.counters
-  leave_counters true now old place answers new h = ap (λ (s : ServiceView P). s.counters) h.1
-  leave_counters false now old place answers new h = ap (λ (s : ServiceView P). s.counters) h.2 ∙ by h.0
+      (trace : List (SystemCall P)) (new : ServiceView P) → LeavesVisit closed now old place trace new → new.counters ≡ old.counters
+  leave_counters true now old place trace new h = ap (λ (s : ServiceView P). s.counters) h.1
+  leave_counters false now old place trace new h = ap (λ (s : ServiceView P). s.counters) h.2 ∙ by h.0
     where
       by : (rests : Bool) → (if rests then old else queued_again old place).counters ≡ old.counters
       by true = refl
       by false = refl
 
-  turned_counters : (old : ServiceView P) (place turns : ℕ) (answers : List (SystemCall P)) (new : ServiceView P) →
-      TurnsAndLeaves port_transition old place turns answers new → new.counters ≡ old.counters
-  turned_counters old place turns answers new h =
+  turned_counters : (old : ServiceView P) (place turns : ℕ) (trace : List (SystemCall P)) (new : ServiceView P) →
+      TurnsAndLeaves port_transition old place turns trace new → new.counters ≡ old.counters
+  turned_counters old place turns trace new h =
       leave_counters (is_closed h.now.0) h.now (record old { slab = h.turned }) place h.leaving new h.leaves
 
   pub visit_counters : (at : Option (SlabPlace (SessionView × QuotaPortsView P))) (old : ServiceView P) (place turns : ℕ)
-      (answers : List (SystemCall P)) (new : ServiceView P) → VisitsBy port_transition at old place turns answers new →
+      (trace : List (SystemCall P)) (new : ServiceView P) → VisitsBy port_transition at old place turns trace new →
       new.counters ≡ old.counters
-  visit_counters None old place turns answers new h = ap (λ (s : ServiceView P). s.counters) h.2
-  visit_counters (Some Free) old place turns answers new h = ap (λ (s : ServiceView P). s.counters) h.2
-  visit_counters (Some Kept) old place turns answers new h = by h.0 h.1 h.3
+  visit_counters None old place turns trace new h = ap (λ (s : ServiceView P). s.counters) h.2
+  visit_counters (Some Free) old place turns trace new h = ap (λ (s : ServiceView P). s.counters) h.2
+  visit_counters (Some Kept) old place turns trace new h = by h.0 h.1 h.3
     where
-      by : (connect : Connect P) (told : List (SystemCall P)) → MeetsBy port_transition connect old place turns told new →
+      by : (connect : Connect P) (joining : List (SystemCall P)) → JoinsBy port_transition connect old place turns joining new →
           new.counters ≡ old.counters
-      by (Ready ports) told m = turned_counters (record old { slab = m.0 }) place turns told new m.2
-      by Failed told m = ap (λ (s : ServiceView P). s.counters) m.2
-      by Pending told m = ap (λ (s : ServiceView P). s.counters) m.2
-  visit_counters (Some (Held now)) old place turns answers new h = turned_counters old place turns answers new h
+      by (Ready ports) joining m = turned_counters (record old { slab = m.0 }) place turns joining new m.2
+      by Failed joining m = ap (λ (s : ServiceView P). s.counters) m.2
+      by Pending joining m = ap (λ (s : ServiceView P). s.counters) m.2
+  visit_counters (Some (Held now)) old place turns trace new h = turned_counters old place turns trace new h
 
-  pub visits_counters : (visited : List ℕ) (turns : ℕ) (old : ServiceView P) (answers : List (SystemCall P)) (new : ServiceView P) →
-      Visits port_transition visited turns old answers new → new.counters ≡ old.counters
-  visits_counters [] turns old answers new h = ap (λ (s : ServiceView P). s.counters) h.2
-  visits_counters (place ∷ earlier) turns old answers new h =
+  pub visits_counters : (visited : List ℕ) (turns : ℕ) (old : ServiceView P) (trace : List (SystemCall P)) (new : ServiceView P) →
+      Visits port_transition visited turns old trace new → new.counters ≡ old.counters
+  visits_counters [] turns old trace new h = ap (λ (s : ServiceView P). s.counters) h.2
+  visits_counters (place ∷ earlier) turns old trace new h =
       visit_counters (slice_get h.0.slab.places place) (record h.0 { ready = h.8.ready }) place h.2 h.4 new h.8.visits
       ∙ visits_counters earlier h.1 old h.3 h.0 h.7
 
 -- ---- the limit of bots in all, under the orders so far
 
 -- The limit is that of the settings, or, after an order to stop, the number of bots accepted. No order is ignored.
-pub record Limited {P : Type 0} (settings : Settings) (answers : List (SystemCall P)) (counters : AdmissionCounters) :
+pub record Limited {P : Type 0} (settings : Settings) (trace : List (SystemCall P)) (counters : AdmissionCounters) :
     Type 0 where
-  pub stops : HeedsStops answers
-  pub goes_on : stop_orders answers ≡ 0 → counters.sessions ≡ bots_in_all settings
-  pub over : 0 < stop_orders answers → counters.sessions ≡ counters.accepted
+  pub stops : HeedsStops trace
+  pub goes_on : stop_orders trace ≡ 0 → counters.sessions ≡ bots_in_all settings
+  pub over : 0 < stop_orders trace → counters.sessions ≡ counters.accepted
   pub at_most : counters.sessions ≤ bots_in_all settings
   pub accepted : counters.accepted ≤ counters.sessions
-  pub shows : show_orders answers ≡ 0 → sum_over_calls show_calls answers ≡ 0
+  pub shows : show_orders trace ≡ 0 → sum_over_calls show_calls trace ≡ 0
 
 pub first_limit : {P : Type 0} (settings : Settings) →
     Limited {P = P} settings [] (initial_service {P = P} settings).counters
@@ -353,9 +353,9 @@ module _ {P : Type 0} (port_transition : P → PortCall → P → Type 0) (setti
               under.still_over (h.over (omega (arith, some, stops, none)))
 
   -- the law, from the limit
-  pub orders_heeded : (answers : List (SystemCall P)) (run : ServiceView P) → Limited settings answers run.counters →
-      HeedsOrders settings answers run
-  orders_heeded answers run h = record {
+  pub orders_heeded : (trace : List (SystemCall P)) (run : ServiceView P) → Limited settings trace run.counters →
+      HeedsOrders settings trace run
+  orders_heeded trace run h = record {
     stops = h.stops;
     ends = λ some. (
         let all : have_all_come run.counters ≡ true =

@@ -22,8 +22,8 @@ use Rattle.daide_driver.specs.declared.place.SlabPlace.TheVariants.{Free, Kept, 
 use Rattle.daide_driver.specs.Slab.{SlabView, IsAt, IfHeldAt, all_free}
 use Rattle.daide_event_loop.specs.declared.admission_counters.AdmissionCounters.{AdmissionCounters}
 use Rattle.daide_event_loop.specs.QuotaPorts.{QuotaPortsView, Meters, RestsBy}
-use Rattle.daide_event_loop.specs.Serving.{ServiceView, fresh, OpensTurn, TurnsInRow, LeavesVisit, TurnsAndLeaves, MeetsBy, VisitsBy, Visits, queued_again}
-use Rattle.daide_event_loop.specs.Serving.{last_words, parting, end_of, Admits, accepted_at, opening, polled, has_room, Round, Rounds, initial_service}
+use Rattle.daide_event_loop.specs.Serving.{ServiceView, fresh, OpensTurn, TurnsInRow, LeavesVisit, TurnsAndLeaves, JoinsBy, VisitsBy, Visits, queued_again}
+use Rattle.daide_event_loop.specs.Serving.{spent_notice, retirement, end_of, Admits, accepted_at, opening, polled, has_room, Round, Rounds, initial_service}
 use Rattle.daide_event_loop.specs.Served.{run_limits}
 use Rattle.daide_event_loop.specs.Waiting.{IsIdleSession, IsAtRest, RestingSessionsAreIdle}
 use Rattle.daide_event_loop.proofs.BeginningLemmas.{get_set, changed_there}
@@ -46,83 +46,83 @@ apart_test one place apart = by (one == place) refl
     by false e = e
 
 module _ {P : Type 0} (port_transition : P → PortCall → P → Type 0) (other place : ℕ) (apart : other ≢ place) where
-  leave_elsewhere : (closed : Bool) (now : SessionView × QuotaPortsView P) (old : ServiceView P) (answers : List (SystemCall P))
-      (new : ServiceView P) → LeavesVisit closed now old other answers new → All (IsElsewhere place) answers
-  leave_elsewhere true now old answers new h =
-      All-same (IsElsewhere place) answers (parting other now.1 (end_of now)) h.0
-      (All-push (IsElsewhere place) (last_words (is_none now.1.turns_left)) (Retires other now.1.ports (end_of now))
+  leave_elsewhere : (closed : Bool) (now : SessionView × QuotaPortsView P) (old : ServiceView P) (trace : List (SystemCall P))
+      (new : ServiceView P) → LeavesVisit closed now old other trace new → All (IsElsewhere place) trace
+  leave_elsewhere true now old trace new h =
+      All-same (IsElsewhere place) trace (retirement other now.1 (end_of now)) h.0
+      (All-push (IsElsewhere place) (spent_notice (is_none now.1.turns_left)) (Retires other now.1.ports (end_of now))
       (spoken (is_none now.1.turns_left)) (apart_test other place apart))
     where
-      spoken : (b : Bool) → All (IsElsewhere {P = P} place) (last_words b)
+      spoken : (b : Bool) → All (IsElsewhere {P = P} place) (spent_notice b)
       spoken true = All-cons (IsElsewhere place) (Notifies TurnsSpent) [] refl (All-nil (IsElsewhere place))
       spoken false = All-nil (IsElsewhere place)
-  leave_elsewhere false now old answers new h =
+  leave_elsewhere false now old trace new h =
       all_rests port_transition (IsElsewhere place) other (λ ports rests. apart_test other place apart) now.1.made_progress
-      now.1.ports answers h.0 h.1
+      now.1.ports trace h.0 h.1
 
-  given_elsewhere : (old : ServiceView P) (turns : ℕ) (answers : List (SystemCall P)) (new : ServiceView P) →
-      TurnsAndLeaves port_transition old other turns answers new → All (IsElsewhere place) answers
-  given_elsewhere old turns answers new h =
-      All-same (IsElsewhere place) answers (h.turning ++ h.leaving) h.asked
+  given_elsewhere : (old : ServiceView P) (turns : ℕ) (trace : List (SystemCall P)) (new : ServiceView P) →
+      TurnsAndLeaves port_transition old other turns trace new → All (IsElsewhere place) trace
+  given_elsewhere old turns trace new h =
+      All-same (IsElsewhere place) trace (h.turning ++ h.leaving) h.asked
       (All-append (IsElsewhere place) h.turning h.leaving
       (all_turns port_transition (IsElsewhere place) other (λ before after. apart_test other place apart) turns old.slab h.turning
       h.turned h.takes.made)
       (leave_elsewhere (is_closed h.now.0) h.now (record old { slab = h.turned }) h.leaving new h.leaves))
 
   pub visit_elsewhere : (at : Option (SlabPlace (SessionView × QuotaPortsView P))) (old : ServiceView P) (turns : ℕ)
-      (answers : List (SystemCall P)) (new : ServiceView P) → VisitsBy port_transition at old other turns answers new →
-      All (IsElsewhere place) answers
-  visit_elsewhere None old turns answers new h = All-same (IsElsewhere place) answers [] h.1 (All-nil (IsElsewhere place))
-  visit_elsewhere (Some Free) old turns answers new h = All-same (IsElsewhere place) answers [] h.1 (All-nil (IsElsewhere place))
-  visit_elsewhere (Some Kept) old turns answers new h =
-      All-same (IsElsewhere place) answers (Connects other h.0 ∷ h.1) h.2
+      (trace : List (SystemCall P)) (new : ServiceView P) → VisitsBy port_transition at old other turns trace new →
+      All (IsElsewhere place) trace
+  visit_elsewhere None old turns trace new h = All-same (IsElsewhere place) trace [] h.1 (All-nil (IsElsewhere place))
+  visit_elsewhere (Some Free) old turns trace new h = All-same (IsElsewhere place) trace [] h.1 (All-nil (IsElsewhere place))
+  visit_elsewhere (Some Kept) old turns trace new h =
+      All-same (IsElsewhere place) trace (Connects other h.0 ∷ h.1) h.2
       (All-cons (IsElsewhere place) (Connects other h.0) h.1 (apart_test other place apart) (by h.0 h.1 h.3))
     where
-      by : (connect : Connect P) (told : List (SystemCall P)) → MeetsBy port_transition connect old other turns told new →
-          All (IsElsewhere place) told
-      by (Ready ports) told m = given_elsewhere (record old { slab = m.0 }) turns told new m.2
-      by Failed told m =
-          All-same (IsElsewhere place) told (Notifies CannotReach ∷ []) m.1
+      by : (connect : Connect P) (joining : List (SystemCall P)) → JoinsBy port_transition connect old other turns joining new →
+          All (IsElsewhere place) joining
+      by (Ready ports) joining m = given_elsewhere (record old { slab = m.0 }) turns joining new m.2
+      by Failed joining m =
+          All-same (IsElsewhere place) joining (Notifies CannotReach ∷ []) m.1
           (All-cons (IsElsewhere place) (Notifies CannotReach) [] refl (All-nil (IsElsewhere place)))
-      by Pending told m = All-same (IsElsewhere place) told [] m.1 (All-nil (IsElsewhere place))
-  visit_elsewhere (Some (Held now)) old turns answers new h = given_elsewhere old turns answers new h
+      by Pending joining m = All-same (IsElsewhere place) joining [] m.1 (All-nil (IsElsewhere place))
+  visit_elsewhere (Some (Held now)) old turns trace new h = given_elsewhere old turns trace new h
 
 -- ---- the only place that a visit changes
 
 module _ {P : Type 0} (port_transition : P → PortCall → P → Type 0) where
   leave_there : (closed : Bool) (now : SessionView × QuotaPortsView P) (old : ServiceView P) (place : ℕ)
-      (answers : List (SystemCall P)) (new : ServiceView P) → LeavesVisit closed now old place answers new →
+      (trace : List (SystemCall P)) (new : ServiceView P) → LeavesVisit closed now old place trace new →
       ChangesOnlyAt place old.slab new.slab
-  leave_there true now old place answers new h = one_there place old.slab new.slab Free (ap (λ (s : ServiceView P). s.slab) h.1)
-  leave_there false now old place answers new h = same_there place old.slab new.slab (ap (λ (s : ServiceView P). s.slab) h.2 ∙ by h.0)
+  leave_there true now old place trace new h = one_there place old.slab new.slab Free (ap (λ (s : ServiceView P). s.slab) h.1)
+  leave_there false now old place trace new h = same_there place old.slab new.slab (ap (λ (s : ServiceView P). s.slab) h.2 ∙ by h.0)
     where
       by : (rests : Bool) → (if rests then old else queued_again old place).slab ≡ old.slab
       by true = refl
       by false = refl
 
-  given_there : (old : ServiceView P) (place turns : ℕ) (answers : List (SystemCall P)) (new : ServiceView P) →
-      TurnsAndLeaves port_transition old place turns answers new → ChangesOnlyAt place old.slab new.slab
-  given_there old place turns answers new h =
+  given_there : (old : ServiceView P) (place turns : ℕ) (trace : List (SystemCall P)) (new : ServiceView P) →
+      TurnsAndLeaves port_transition old place turns trace new → ChangesOnlyAt place old.slab new.slab
+  given_there old place turns trace new h =
       there_then place old.slab h.turned new.slab
       (turns_there_only port_transition turns old.slab place h.turning h.turned h.takes.made)
       (leave_there (is_closed h.now.0) h.now (record old { slab = h.turned }) place h.leaving new h.leaves)
 
   pub visit_there : (at : Option (SlabPlace (SessionView × QuotaPortsView P))) (old : ServiceView P) (place turns : ℕ)
-      (answers : List (SystemCall P)) (new : ServiceView P) → VisitsBy port_transition at old place turns answers new →
+      (trace : List (SystemCall P)) (new : ServiceView P) → VisitsBy port_transition at old place turns trace new →
       ChangesOnlyAt place old.slab new.slab
-  visit_there None old place turns answers new h = same_there place old.slab new.slab (ap (λ (s : ServiceView P). s.slab) h.2)
-  visit_there (Some Free) old place turns answers new h = same_there place old.slab new.slab (ap (λ (s : ServiceView P). s.slab) h.2)
-  visit_there (Some Kept) old place turns answers new h = by h.0 h.1 h.3
+  visit_there None old place turns trace new h = same_there place old.slab new.slab (ap (λ (s : ServiceView P). s.slab) h.2)
+  visit_there (Some Free) old place turns trace new h = same_there place old.slab new.slab (ap (λ (s : ServiceView P). s.slab) h.2)
+  visit_there (Some Kept) old place turns trace new h = by h.0 h.1 h.3
     where
-      by : (connect : Connect P) (told : List (SystemCall P)) → MeetsBy port_transition connect old place turns told new →
+      by : (connect : Connect P) (joining : List (SystemCall P)) → JoinsBy port_transition connect old place turns joining new →
           ChangesOnlyAt place old.slab new.slab
-      by (Ready ports) told m =
+      by (Ready ports) joining m =
           there_then place old.slab m.0 new.slab
           (one_there place old.slab m.0 (Held (m.1.0, fresh ports old.counters.turns)) m.1.2)
-          (given_there (record old { slab = m.0 }) place turns told new m.2)
-      by Failed told m = one_there place old.slab new.slab Free (ap (λ (s : ServiceView P). s.slab) m.2)
-      by Pending told m = same_there place old.slab new.slab (ap (λ (s : ServiceView P). s.slab) m.2)
-  visit_there (Some (Held now)) old place turns answers new h = given_there old place turns answers new h
+          (given_there (record old { slab = m.0 }) place turns joining new m.2)
+      by Failed joining m = one_there place old.slab new.slab Free (ap (λ (s : ServiceView P). s.slab) m.2)
+      by Pending joining m = same_there place old.slab new.slab (ap (λ (s : ServiceView P). s.slab) m.2)
+  visit_there (Some (Held now)) old place turns trace new h = given_there old place turns trace new h
 
 -- ---- rest
 
@@ -168,12 +168,12 @@ module _ {P : Type 0} (port_transition : P → PortCall → P → Type 0) where
 
   module _ (settings : Settings) (all : List (SystemCall P)) where
     -- the last of some turns made no progress
-    last_idle : (n : ℕ) (old : SlabView (QuotaPortsView P)) (place : ℕ) (answers : List (SystemCall P))
+    last_idle : (n : ℕ) (old : SlabView (QuotaPortsView P)) (place : ℕ) (trace : List (SystemCall P))
         (new : SlabView (QuotaPortsView P)) (now : SessionView × QuotaPortsView P) → 0 < n →
-        TurnsInRow port_transition n old place answers new → IsAt new place (Held now) → now.1.made_progress ≡ false →
+        TurnsInRow port_transition n old place trace new → IsAt new place (Held now) → now.1.made_progress ≡ false →
         HasRun port_transition (run_limits settings) now → (is_closed now.0 ≡ true) ⊎ IsIdleSession port_transition now
-    last_idle zero old place answers new now some h at unmoved run = absurd (omega (arith, some))
-    last_idle (suc n) old place answers new now some h at unmoved run =
+    last_idle zero old place trace new now some h at unmoved run = absurd (omega (arith, some))
+    last_idle (suc n) old place trace new now some h at unmoved run =
         let turn = h.6 in
         let opened = changed_there (OpensTurn port_transition place h.2) h.0 place turn.begun turn.begins in
         let same : turn.begins.1 ≡ turn.runs.0 = cc (sym opened ∙ turn.runs.2) in
@@ -190,11 +190,11 @@ module _ {P : Type 0} (port_transition : P → PortCall → P → Type 0) where
     has_run place now s = let sends = s.0.stands.1.whole.sends in (events_of s.0.history, sends.effects, sends.run)
 
     -- a session that had turns rests, or its place is free or queued
-    given_rests : (calls : List (SystemCall P)) (old : ServiceView P) (place turns : ℕ) (answers : List (SystemCall P))
+    given_rests : (calls : List (SystemCall P)) (old : ServiceView P) (place turns : ℕ) (trace : List (SystemCall P))
         (new : ServiceView P) → IfHeldAt old.slab.places place (Reached port_transition settings all place) →
-        place < old.ready.places → TurnsAndLeaves port_transition old place turns answers new → IsAbsent new.ready place →
-        RestsAt (calls ++ answers) place new
-    given_rests calls old place turns answers new reached inside h absent = by (is_closed h.now.0) refl h.leaves
+        place < old.ready.places → TurnsAndLeaves port_transition old place turns trace new → IsAbsent new.ready place →
+        RestsAt (calls ++ trace) place new
+    given_rests calls old place turns trace new reached inside h absent = by (is_closed h.now.0) refl h.leaves
       where
         mid : ServiceView P
         mid = record old { slab = h.turned }
@@ -205,20 +205,20 @@ module _ {P : Type 0} (port_transition : P → PortCall → P → Type 0) where
 
         rested : (moved rests : Bool) → is_closed h.now.0 ≡ false → h.now.1.made_progress ≡ moved →
             RestsBy moved place h.now.1.ports h.leaving rests → new ≡ (if rests then mid else queued_again mid place) →
-            RestsAt (calls ++ answers) place new
+            RestsAt (calls ++ trace) place new
         rested true true lives is r e = let none = r.1 in absurd (cc)
         rested false true lives is r e =
             let idle : IsIdleSession port_transition h.now =
             ⊎_elim (λ (closed : is_closed h.now.0 ≡ true). absurd (cc)) (λ (i : IsIdleSession port_transition h.now). i)
             (last_idle turns old.slab place h.turning h.turned h.now h.takes.some h.takes.made h.there is
             (has_run place h.now served)) in
-            let trace : calls ++ answers ≡ (calls ++ h.turning) ++ Rests place h.now.1.ports true ∷ [] =
+            let extended : calls ++ trace ≡ (calls ++ h.turning) ++ Rests place h.now.1.ports true ∷ [] =
             ap (λ (l : List (SystemCall P)). calls ++ l) (h.asked ∙ ap (λ (l : List (SystemCall P)). h.turning ++ l) r)
             ∙ sym (append_assoc calls h.turning (Rests place h.now.1.ports true ∷ [])) in
-            rests_with (calls ++ answers) place new (Held h.now)
+            rests_with (calls ++ trace) place new (Held h.now)
             (ap (λ (s : ServiceView P). slice_get s.slab.places place) e ∙ h.there) (
               idle,
-              ap (last_about place None) trace
+              ap (last_about place None) extended
                   ∙ last_here place (calls ++ h.turning) (Rests place h.now.1.ports true) (eqb_same place),
             )
         rested moved false lives is r e =
@@ -226,34 +226,34 @@ module _ {P : Type 0} (port_transition : P → PortCall → P → Type 0) where
             (subst (λ (s : ServiceView P). IsAbsent s.ready place) e absent))
 
         by : (closed : Bool) → is_closed h.now.0 ≡ closed → LeavesVisit closed h.now mid place h.leaving new →
-            RestsAt (calls ++ answers) place new
+            RestsAt (calls ++ trace) place new
         by true e l =
-            rests_with (calls ++ answers) place new Free
+            rests_with (calls ++ trace) place new Free
             (ap (λ (s : ServiceView P). slice_get s.slab.places place) l.1 ∙ get_set h.turned.places place Free (Held h.now) h.there) tt
         by false e l = rested h.now.1.made_progress l.0 e refl l.1 l.2
 
     -- so it is with a visit of any place
     visit_rests : (at : Option (SlabPlace (SessionView × QuotaPortsView P))) (calls : List (SystemCall P)) (old : ServiceView P)
-        (place turns : ℕ) (answers : List (SystemCall P)) (new : ServiceView P) → slice_get old.slab.places place ≡ at →
-        ((n : ℕ) (ports : P) → Contains answers (Connects n (Ready ports)) → Contains all (Connects n (Ready ports))) →
+        (place turns : ℕ) (trace : List (SystemCall P)) (new : ServiceView P) → slice_get old.slab.places place ≡ at →
+        ((n : ℕ) (ports : P) → Contains trace (Connects n (Ready ports)) → Contains all (Connects n (Ready ports))) →
         old.slab.limits ≡ run_limits settings → old.counters.turns ≡ settings.turns →
         AllServed port_transition settings all old → HasPlaces port_transition old →
-        VisitsBy port_transition at old place turns answers new → IsAbsent new.ready place → RestsAt (calls ++ answers) place new
-    visit_rests None calls old place turns answers new there within limits quota held places h absent =
+        VisitsBy port_transition at old place turns trace new → IsAbsent new.ready place → RestsAt (calls ++ trace) place new
+    visit_rests None calls old place turns trace new there within limits quota held places h absent =
         let none : slice_get new.slab.places place ≡ None = ap (λ (s : ServiceView P). slice_get s.slab.places place) h.2 ∙ there in
-        subst (λ (o : Option (SlabPlace (SessionView × QuotaPortsView P))). IfSome o (IsAtRest port_transition (calls ++ answers) place)) (sym none) tt
-    visit_rests (Some Free) calls old place turns answers new there within limits quota held places h absent =
-        rests_with (calls ++ answers) place new Free (ap (λ (s : ServiceView P). slice_get s.slab.places place) h.2 ∙ there) tt
-    visit_rests (Some Kept) calls old place turns answers new there within limits quota held places h absent = by h.0 h.1 h.2 h.3
+        subst (λ (o : Option (SlabPlace (SessionView × QuotaPortsView P))). IfSome o (IsAtRest port_transition (calls ++ trace) place)) (sym none) tt
+    visit_rests (Some Free) calls old place turns trace new there within limits quota held places h absent =
+        rests_with (calls ++ trace) place new Free (ap (λ (s : ServiceView P). slice_get s.slab.places place) h.2 ∙ there) tt
+    visit_rests (Some Kept) calls old place turns trace new there within limits quota held places h absent = by h.0 h.1 h.2 h.3
       where
         inside : place < old.ready.places
         inside =
             let within = slice_get_within old.slab.places place Kept there in
             omega (arith, within, places)
 
-        by : (connect : Connect P) (told : List (SystemCall P)) → answers ≡ Connects place connect ∷ told →
-            MeetsBy port_transition connect old place turns told new → RestsAt (calls ++ answers) place new
-        by (Ready ports) told e m =
+        by : (connect : Connect P) (joining : List (SystemCall P)) → trace ≡ Connects place connect ∷ joining →
+            JoinsBy port_transition connect old place turns joining new → RestsAt (calls ++ trace) place new
+        by (Ready ports) joining e m =
             let now : SessionView × QuotaPortsView P = (m.1.0, fresh ports old.counters.turns) in
             let at : IsAt m.0 place (Held now) =
             ap (λ (s : SlabView (QuotaPortsView P)). slice_get s.places place) m.1.2 ∙ get_set old.slab.places place (Held now) Kept there in
@@ -261,35 +261,35 @@ module _ {P : Type 0} (port_transition : P → PortCall → P → Type 0) where
             (0, omega arith, refl)) in
             let reached = opened_reached port_transition settings all old place ports m.1.0 limits quota m.1.1 came in
             subst (λ (l : List (SystemCall P)). RestsAt l place new)
-            (append_assoc calls (Connects place (Ready ports) ∷ []) told ∙ ap (λ (l : List (SystemCall P)). calls ++ l) (sym e))
-            (given_rests (calls ++ Connects place (Ready ports) ∷ []) (record old { slab = m.0 }) place turns told new
+            (append_assoc calls (Connects place (Ready ports) ∷ []) joining ∙ ap (λ (l : List (SystemCall P)). calls ++ l) (sym e))
+            (given_rests (calls ++ Connects place (Ready ports) ∷ []) (record old { slab = m.0 }) place turns joining new
             (held_here m.0 place now (Reached port_transition settings all place) at reached) inside m.2 absent)
-        by Failed told e m =
-            rests_with (calls ++ answers) place new Free
+        by Failed joining e m =
+            rests_with (calls ++ trace) place new Free
             (ap (λ (s : ServiceView P). slice_get s.slab.places place) m.2 ∙ get_set old.slab.places place Free Kept there) tt
-        by Pending told e m =
-            rests_with (calls ++ answers) place new Kept (ap (λ (s : ServiceView P). slice_get s.slab.places place) m.2 ∙ there)
+        by Pending joining e m =
+            rests_with (calls ++ trace) place new Kept (ap (λ (s : ServiceView P). slice_get s.slab.places place) m.2 ∙ there)
             (ap (λ (l : List (SystemCall P)). last_about place None (calls ++ l))
             (e ∙ ap (λ (l : List (SystemCall P)). Connects place Pending ∷ l) m.1)
             ∙ last_here place calls (Connects place Pending) (eqb_same place))
-    visit_rests (Some (Held now)) calls old place turns answers new there within limits quota held places h absent =
+    visit_rests (Some (Held now)) calls old place turns trace new there within limits quota held places h absent =
         let inside = slice_get_within old.slab.places place (Held now) there in
-        given_rests calls old place turns answers new
+        given_rests calls old place turns trace new
         (λ own at. still port_transition settings all place own (held place own at)) (omega (arith, inside, places)) h absent
 
-    visits_rest : (calls : List (SystemCall P)) (visited : List ℕ) (turns : ℕ) (old : ServiceView P) (answers : List (SystemCall P))
+    visits_rest : (calls : List (SystemCall P)) (visited : List ℕ) (turns : ℕ) (old : ServiceView P) (trace : List (SystemCall P))
         (new : ServiceView P) →
-        ((n : ℕ) (ports : P) → Contains answers (Connects n (Ready ports)) → Contains all (Connects n (Ready ports))) →
+        ((n : ℕ) (ports : P) → Contains trace (Connects n (Ready ports)) → Contains all (Connects n (Ready ports))) →
         old.slab.limits ≡ run_limits settings → old.counters.turns ≡ settings.turns →
         AllServed port_transition settings all old → HasPlaces port_transition old → AllRest calls old →
-        Visits port_transition visited turns old answers new → AllRest (calls ++ answers) new
-    visits_rest calls [] turns old answers new within limits quota held places rest h =
+        Visits port_transition visited turns old trace new → AllRest (calls ++ trace) new
+    visits_rest calls [] turns old trace new within limits quota held places rest h =
         λ place absent.
-        still_rests calls answers place old new
-        (All-same (IsElsewhere place) answers [] h.1 (All-nil (IsElsewhere place)))
+        still_rests calls trace place old new
+        (All-same (IsElsewhere place) trace [] h.1 (All-nil (IsElsewhere place)))
         (ap (λ (s : ServiceView P). slice_get s.slab.places place) h.2)
         (rest place (subst (λ (s : ServiceView P). IsAbsent s.ready place) h.2 absent))
-    visits_rest calls (other ∷ earlier) turns old answers new within limits quota held places rest h =
+    visits_rest calls (other ∷ earlier) turns old trace new within limits quota held places rest h =
         λ place absent.
         subst (λ (l : List (SystemCall P)). RestsAt l place new)
         (append_assoc calls h.3 h.4 ∙ ap (λ (l : List (SystemCall P)). calls ++ l) (sym h.6))
@@ -353,39 +353,39 @@ module _ {P : Type 0} (port_transition : P → PortCall → P → Type 0) where
           (all_shown port_transition (IsElsewhere place) orders.shows_sessions old.slab.places (λ ports status. refl)))
           refl (rest place was.0)
 
-  accept_rests : (calls : List (SystemCall P)) (old : ServiceView P) (answers : List (SystemCall P)) (new : ServiceView P) →
-      HasPlaces port_transition old → AllRest calls old → Admits old answers new → AllRest (calls ++ answers) new
-  accept_rests calls old answers new places rest (inr none) = λ place absent.
-      still_rests calls answers place old new
-      (All-same (IsElsewhere place) answers [] none.1 (All-nil (IsElsewhere place)))
+  accept_rests : (calls : List (SystemCall P)) (old : ServiceView P) (trace : List (SystemCall P)) (new : ServiceView P) →
+      HasPlaces port_transition old → AllRest calls old → Admits old trace new → AllRest (calls ++ trace) new
+  accept_rests calls old trace new places rest (inr none) = λ place absent.
+      still_rests calls trace place old new
+      (All-same (IsElsewhere place) trace [] none.1 (All-nil (IsElsewhere place)))
       (ap (λ (s : ServiceView P). slice_get s.slab.places place) none.2)
       (rest place (subst (λ (s : ServiceView P). IsAbsent s.ready place) none.2 absent))
-  accept_rests calls old answers new places rest (inl asks) = λ place absent.
+  accept_rests calls old trace new places rest (inl asks) = λ place absent.
       by place absent asks.came (asks.place == place) refl asks.asked asks.then_kept
     where
       by : (place : ℕ) → IsAbsent new.ready place → (came same : Bool) → (asks.place == place) ≡ same →
-          answers ≡ Accepts asks.place came ∷ [] → new ≡ (if came then accepted_at old asks.place else old) →
-          RestsAt (calls ++ answers) place new
+          trace ≡ Accepts asks.place came ∷ [] → new ≡ (if came then accepted_at old asks.place else old) →
+          RestsAt (calls ++ trace) place new
       by place absent true true e asked kept =
           let within = slice_get_within old.slab.places asks.place Free asks.free in
           absurd (woken_there old.ready asks.place (omega (arith, within, places))
           (subst (λ (n : ℕ). IsAbsent (accepted_at old asks.place).ready n) (sym (eqb-true asks.place place e))
           (subst (λ (s : ServiceView P). IsAbsent s.ready place) kept absent)))
       by place absent false true e asked kept =
-          rests_with (calls ++ answers) place new Free
+          rests_with (calls ++ trace) place new Free
           (ap (λ (s : ServiceView P). slice_get s.slab.places place) kept
           ∙ subst (λ (n : ℕ). slice_get old.slab.places n ≡ Some Free) (eqb-true asks.place place e) asks.free) tt
       by place absent true false e asked kept =
           let apart = eqb-false asks.place place e in
           let only = one_there asks.place old.slab new.slab Kept (ap (λ (s : ServiceView P). s.slab) kept) in
-          still_rests calls answers place old new
-          (All-same (IsElsewhere place) answers (Accepts asks.place true ∷ []) asked
+          still_rests calls trace place old new
+          (All-same (IsElsewhere place) trace (Accepts asks.place true ∷ []) asked
           (All-cons (IsElsewhere place) (Accepts asks.place true) [] e (All-nil (IsElsewhere place))))
           (only.beside place (λ same. apart (sym same)))
           (rest place (woken_absent old.ready asks.place place (subst (λ (s : ServiceView P). IsAbsent s.ready place) kept absent)))
       by place absent false false e asked kept =
-          still_rests calls answers place old new
-          (All-same (IsElsewhere place) answers (Accepts asks.place false ∷ []) asked
+          still_rests calls trace place old new
+          (All-same (IsElsewhere place) trace (Accepts asks.place false ∷ []) asked
           (All-cons (IsElsewhere place) (Accepts asks.place false) [] e (All-nil (IsElsewhere place))))
           (ap (λ (s : ServiceView P). slice_get s.slab.places place) kept)
           (rest place (subst (λ (s : ServiceView P). IsAbsent s.ready place) kept absent))

@@ -35,7 +35,7 @@ use Rattle.daide_driver.specs.declared.place.SlabPlace.{SlabPlace}
 use Rattle.daide_driver.specs.declared.place.SlabPlace.TheVariants as Places
 use Rattle.daide_event_loop.specs.Serving.{ServiceView, is_done, is_queue_empty, have_all_come, has_room, sessions_in, pending_in}
 use Rattle.daide_settings.specs.BotsInAll.{bots_in_all}
-use Rattle.daide_event_loop.specs.Serving.{cause_by, parting, end_of, heeding, opening}
+use Rattle.daide_event_loop.specs.Serving.{cause_by, retirement, end_of, heeding, opening}
 use Rattle.daide_io.specs.System.{Polls, Shows, BeginsTurn, Retires, Notifies, no_orders}
 
 -- ---- progress
@@ -147,11 +147,11 @@ ports number left = record {
 
 -- ports beyond their quota, and their first synthetic end
 abbrev spent : ℕ → Ending → QuotaPortsView ℕ
-spent number told = record {
+spent number synthetic = record {
   ports = number;
   turns_left = None;
   made_progress = false;
-  first_synthetic_end = Some told;
+  first_synthetic_end = Some synthetic;
   bytes = no_bytes;
 }
 
@@ -163,7 +163,7 @@ three limits =
 
 -- each with its own end, its own counts and its place
 parted_from_their_places : (limits : Limits) →
-    map (λ now. parting 7 now.1 (end_of now)) (three limits)
+    map (λ now. retirement 7 now.1 (end_of now)) (three limits)
     ≡ (Retires 7 1 (record {
       cause = Causes.Session (Fault Server SecondRm);
       account = counts limits 10;
@@ -281,7 +281,7 @@ nothing_ordered : (limits : Limits) (settings : Settings) (counters : AdmissionC
 nothing_ordered limits settings counters = (refl, refl)
 
 -- told to stop with three of nine bots accepted, a run has three bots in all
-told_to_stop :
+ordered_to_stop :
     heeding (record { stops_accepting = true; shows_sessions = false }) (record { sessions = 9; turns = 7; accepted = 3 })
     ≡ record { sessions = 3; turns = 7; accepted = 3 }
-told_to_stop = refl
+ordered_to_stop = refl

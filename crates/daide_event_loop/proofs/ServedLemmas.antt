@@ -30,8 +30,8 @@ use Rattle.daide_event_loop.specs.declared.admission_counters.AdmissionCounters.
 use Rattle.daide_event_loop.specs.QuotaPorts.{QuotaPortsView, Meters, progress_by, beginning_where, RestsBy}
 use Rattle.daide_io.specs.System.{SystemCall, Polls, Shows, Accepts, Connects, BeginsTurn, Rests, Retires, Notifies, status_of}
 use Rattle.daide_event_loop.specs.Serving.{ServiceView, fresh, initial_service, is_done, have_all_come, closed, shows_where, opening, polled}
-use Rattle.daide_event_loop.specs.Serving.{OpensTurn, TakesTurn, TurnsInRow, LeavesVisit, TurnsAndLeaves, MeetsBy, VisitsBy, Visits, queued_again}
-use Rattle.daide_event_loop.specs.Serving.{last_words, parting, cause_by, end_of, Admits, accepted_at, Round, Rounds, BreaksOff, sessions_in, pending_in}
+use Rattle.daide_event_loop.specs.Serving.{OpensTurn, TakesTurn, TurnsInRow, LeavesVisit, TurnsAndLeaves, JoinsBy, VisitsBy, Visits, queued_again}
+use Rattle.daide_event_loop.specs.Serving.{spent_notice, retirement, cause_by, end_of, Admits, accepted_at, Round, Rounds, BreaksOff, sessions_in, pending_in}
 use Rattle.daide_event_loop.specs.Served.{IsServedSession, run_limits, IsSessionOfRun, IsServed, IsEndOf, RetiresClosed, AreServed}
 use Rattle.daide_event_loop.specs.Served.{IsWholeRun, comes, connects, retires, unreached, sum_over_calls}
 use Rattle.daide_event_loop.proofs.BeginningLemmas.{get_set, changed_there}
@@ -111,16 +111,16 @@ module _ {P : Type 0} where
       by false e = λ held at. before other held (sym (only.beside other (eqb-false other place e)) ∙ at)
 
 module _ {P : Type 0} (port_transition : P → PortCall → P → Type 0) where
-  turn_there : (old : SlabView (QuotaPortsView P)) (place : ℕ) (answers : List (SystemCall P)) (new : SlabView (QuotaPortsView P)) →
-      TakesTurn port_transition old place answers new → ChangesOnlyAt place old new
-  turn_there old place answers new h =
+  turn_there : (old : SlabView (QuotaPortsView P)) (place : ℕ) (trace : List (SystemCall P)) (new : SlabView (QuotaPortsView P)) →
+      TakesTurn port_transition old place trace new → ChangesOnlyAt place old new
+  turn_there old place trace new h =
       there_then place old h.begun new (one_there place old h.begun (Held h.begins.1) h.begins.3)
       (one_there place h.begun new (Held h.runs.1) h.runs.3)
 
-  pub turns_there_only : (n : ℕ) (old : SlabView (QuotaPortsView P)) (place : ℕ) (answers : List (SystemCall P))
-      (new : SlabView (QuotaPortsView P)) → TurnsInRow port_transition n old place answers new → ChangesOnlyAt place old new
-  turns_there_only zero old place answers new h = same_there place old new h.1
-  turns_there_only (suc n) old place answers new h =
+  pub turns_there_only : (n : ℕ) (old : SlabView (QuotaPortsView P)) (place : ℕ) (trace : List (SystemCall P))
+      (new : SlabView (QuotaPortsView P)) → TurnsInRow port_transition n old place trace new → ChangesOnlyAt place old new
+  turns_there_only zero old place trace new h = same_there place old new h.1
+  turns_there_only (suc n) old place trace new h =
       there_then place old h.0 new (turns_there_only n old place h.1 h.0 h.4) (turn_there h.0 place h.2 new h.6)
 
 -- ---- what holds of each call of a trace
@@ -132,21 +132,21 @@ module _ {P : Type 0} (port_transition : P → PortCall → P → Type 0) (Q : S
   all_begun place each (Some turns) before after = All-cons Q (BeginsTurn place before after) [] (each before after) (All-nil Q)
 
   pub all_turns : (place : ℕ) → ((before after : P) → Q (BeginsTurn place before after)) → (n : ℕ)
-      (old : SlabView (QuotaPortsView P)) (answers : List (SystemCall P)) (new : SlabView (QuotaPortsView P)) →
-      TurnsInRow port_transition n old place answers new → All Q answers
-  all_turns place each zero old answers new h = All-same Q answers [] h.0 (All-nil Q)
-  all_turns place each (suc n) old answers new h =
+      (old : SlabView (QuotaPortsView P)) (trace : List (SystemCall P)) (new : SlabView (QuotaPortsView P)) →
+      TurnsInRow port_transition n old place trace new → All Q trace
+  all_turns place each zero old trace new h = All-same Q trace [] h.0 (All-nil Q)
+  all_turns place each (suc n) old trace new h =
       let begins = h.6.begins in
-      All-same Q answers (h.1 ++ h.2) h.3
+      All-same Q trace (h.1 ++ h.2) h.3
       (All-append Q h.1 h.2 (all_turns place each n old h.1 h.0 h.4)
       (All-same Q h.2 (beginning_where begins.1.1.turns_left place begins.0.1.ports begins.1.1.ports) begins.4.1
       (all_begun place each begins.1.1.turns_left begins.0.1.ports begins.1.1.ports)))
 
   pub all_rests : (place : ℕ) → ((ports : P) (rests : Bool) → Q (Rests place ports rests)) → (moved : Bool) (ports : P)
-      (answers : List (SystemCall P)) (rests : Bool) → RestsBy moved place ports answers rests → All Q answers
-  all_rests place each true ports answers rests h = All-same Q answers [] h.0 (All-nil Q)
-  all_rests place each false ports answers rests h =
-      All-same Q answers (Rests place ports rests ∷ []) h (All-cons Q (Rests place ports rests) [] (each ports rests) (All-nil Q))
+      (trace : List (SystemCall P)) (rests : Bool) → RestsBy moved place ports trace rests → All Q trace
+  all_rests place each true ports trace rests h = All-same Q trace [] h.0 (All-nil Q)
+  all_rests place each false ports trace rests h =
+      All-same Q trace (Rests place ports rests ∷ []) h (All-cons Q (Rests place ports rests) [] (each ports rests) (All-nil Q))
 
   pub all_shown : (shown : Bool) (places : List (SlabPlace (SessionView × QuotaPortsView P))) →
       ((ports : P) (status : SessionStatus) → Q (Shows ports status)) → All Q (shows_where shown places)
@@ -261,31 +261,31 @@ module _ {P : Type 0} (port_transition : P → PortCall → P → Type 0) (setti
         )
 
     -- a turn serves its session
-    turn_serves : (old : SlabView (QuotaPortsView P)) (place : ℕ) (answers : List (SystemCall P))
+    turn_serves : (old : SlabView (QuotaPortsView P)) (place : ℕ) (trace : List (SystemCall P))
         (new : SlabView (QuotaPortsView P)) → IfHeldAt old.places place (Reached place) →
-        TakesTurn port_transition old place answers new → IfHeldAt new.places place (Served place)
-    turn_serves old place answers new before h =
+        TakesTurn port_transition old place trace new → IfHeldAt new.places place (Served place)
+    turn_serves old place trace new before h =
         let first = begun place h.begins.0 h.begins.1 h.begins.4.0 (before h.begins.0 h.begins.2) in
-        let there = changed_there (OpensTurn port_transition place answers) old place h.begun h.begins in
+        let there = changed_there (OpensTurn port_transition place trace) old place h.begun h.begins in
         let same : h.begins.1 ≡ h.runs.0 = cc (sym there ∙ h.runs.2) in
         held_here new place h.runs.1 (Served place) (changed_there (IsTurned (Meters port_transition)) h.begun place new h.runs)
         (turned place h.runs.0 h.runs.1 h.runs.4 (subst (Reached place) same first))
 
     -- and so do its turns, one at least
-    turns_reach : (n : ℕ) (old : SlabView (QuotaPortsView P)) (place : ℕ) (answers : List (SystemCall P))
+    turns_reach : (n : ℕ) (old : SlabView (QuotaPortsView P)) (place : ℕ) (trace : List (SystemCall P))
         (new : SlabView (QuotaPortsView P)) → IfHeldAt old.places place (Reached place) →
-        TurnsInRow port_transition n old place answers new → IfHeldAt new.places place (Reached place)
-    turns_reach zero old place answers new before h =
+        TurnsInRow port_transition n old place trace new → IfHeldAt new.places place (Reached place)
+    turns_reach zero old place trace new before h =
         subst (λ (s : SlabView (QuotaPortsView P)). IfHeldAt s.places place (Reached place)) (sym h.1) before
-    turns_reach (suc n) old place answers new before h =
+    turns_reach (suc n) old place trace new before h =
         λ held at. still place held
         (turn_serves h.0 place h.2 new (turns_reach n old place h.1 h.0 before h.4) h.6 held at)
 
-    pub turns_serve : (n : ℕ) (old : SlabView (QuotaPortsView P)) (place : ℕ) (answers : List (SystemCall P))
+    pub turns_serve : (n : ℕ) (old : SlabView (QuotaPortsView P)) (place : ℕ) (trace : List (SystemCall P))
         (new : SlabView (QuotaPortsView P)) → 0 < n → IfHeldAt old.places place (Reached place) →
-        TurnsInRow port_transition n old place answers new → IfHeldAt new.places place (Served place)
-    turns_serve zero old place answers new some before h = absurd (omega (arith, some))
-    turns_serve (suc n) old place answers new some before h =
+        TurnsInRow port_transition n old place trace new → IfHeldAt new.places place (Served place)
+    turns_serve zero old place trace new some before h = absurd (omega (arith, some))
+    turns_serve (suc n) old place trace new some before h =
         turn_serves h.0 place h.2 new (turns_reach n old place h.1 h.0 before h.4) h.6
 
     -- ---- the end of a session
@@ -310,23 +310,23 @@ module _ {P : Type 0} (port_transition : P → PortCall → P → Type 0) (setti
           cut_field h.2.state place.0.state place.1.first_synthetic_end h.2.cut,
         )
 
-    spoken : (b : Bool) → All Gone (last_words b)
+    spoken : (b : Bool) → All Gone (spent_notice b)
     spoken true = All-cons Gone (Notifies TurnsSpent) [] tt (All-nil Gone)
     spoken false = All-nil Gone
 
     parted : (place : ℕ) (now : SessionView × QuotaPortsView P) → is_closed now.0 ≡ true → Served place now →
-        All Gone (parting place now.1 (end_of now))
+        All Gone (retirement place now.1 (end_of now))
     parted place now e h =
-        All-push Gone (last_words (is_none now.1.turns_left)) (Retires place now.1.ports (end_of now))
+        All-push Gone (spent_notice (is_none now.1.turns_left)) (Retires place now.1.ports (end_of now))
         (spoken (is_none now.1.turns_left)) (now, refl, e, (h.0, h.1, ended now e place h))
 
     -- ---- a visit
 
     -- each session is served, and so are those that were retired
-    pub record Serves (answers : List (SystemCall P)) (old new : ServiceView P) : Type 0 where
+    pub record Serves (trace : List (SystemCall P)) (old new : ServiceView P) : Type 0 where
       pub limits : new.slab.limits ≡ old.slab.limits
       pub held : (place : ℕ) → IfHeldAt new.slab.places place (Served place)
-      pub gone : All Gone answers
+      pub gone : All Gone trace
 
     abbrev pub AllServed : ServiceView P → Type 0
     AllServed run = (place : ℕ) → IfHeldAt run.slab.places place (Served place)
@@ -335,10 +335,10 @@ module _ {P : Type 0} (port_transition : P → PortCall → P → Type 0) (setti
     stays old new held e =
         subst (λ (s : SlabView (QuotaPortsView P)). (place : ℕ) → IfHeldAt s.places place (Served place)) (sym e) held
 
-    left : (is : Bool) (now : SessionView × QuotaPortsView P) (old : ServiceView P) (place : ℕ) (answers : List (SystemCall P))
+    left : (is : Bool) (now : SessionView × QuotaPortsView P) (old : ServiceView P) (place : ℕ) (trace : List (SystemCall P))
         (new : ServiceView P) → is_closed now.0 ≡ is → IsAt old.slab place (Held now) → AllServed old →
-        LeavesVisit is now old place answers new → Serves answers old new
-    left true now old place answers new e at held h =
+        LeavesVisit is now old place trace new → Serves trace old new
+    left true now old place trace new e at held h =
         let slab = ap (λ (s : ServiceView P). s.slab) h.1 in
         let free : IsAt new.slab place Free =
         ap (λ (s : SlabView (QuotaPortsView P)). slice_get s.places place) slab ∙ get_set old.slab.places place Free (Held now) at in
@@ -346,14 +346,14 @@ module _ {P : Type 0} (port_transition : P → PortCall → P → Type 0) (setti
         record {
           limits = only.limits;
           held = each_held place old.slab new.slab Served only held (none_here new.slab place (Served place) free);
-          gone = All-same Gone answers (parting place now.1 (end_of now)) h.0 (parted place now e (held place now at));
+          gone = All-same Gone trace (retirement place now.1 (end_of now)) h.0 (parted place now e (held place now at));
         }
-    left false now old place answers new e at held h =
+    left false now old place trace new e at held h =
         let slab = ap (λ (s : ServiceView P). s.slab) h.2 ∙ by h.0 in
         record {
           limits = ap (λ (s : SlabView (QuotaPortsView P)). s.limits) slab;
           held = stays old new held slab;
-          gone = all_rests port_transition Gone place (λ ports rests. tt) now.1.made_progress now.1.ports answers h.0 h.1;
+          gone = all_rests port_transition Gone place (λ ports rests. tt) now.1.made_progress now.1.ports trace h.0 h.1;
         }
       where
         by : (rests : Bool) → (if rests then old else queued_again old place).slab ≡ old.slab
@@ -365,9 +365,9 @@ module _ {P : Type 0} (port_transition : P → PortCall → P → Type 0) (setti
     AllServedBut place run = ((other : ℕ) → other ≢ place → IfHeldAt run.slab.places other (Served other))
         × IfHeldAt run.slab.places place (Reached place)
 
-    given_turns : (old : ServiceView P) (place turns : ℕ) (answers : List (SystemCall P)) (new : ServiceView P) →
-        AllServedBut place old → TurnsAndLeaves port_transition old place turns answers new → Serves answers old new
-    given_turns old place turns answers new held h =
+    given_turns : (old : ServiceView P) (place turns : ℕ) (trace : List (SystemCall P)) (new : ServiceView P) →
+        AllServedBut place old → TurnsAndLeaves port_transition old place turns trace new → Serves trace old new
+    given_turns old place turns trace new held h =
         let mid : ServiceView P = record old { slab = h.turned } in
         let made = h.takes.made in
         let only = turns_there_only port_transition turns old.slab place h.turning h.turned made in
@@ -376,7 +376,7 @@ module _ {P : Type 0} (port_transition : P → PortCall → P → Type 0) (setti
         record {
           limits = goes.limits ∙ only.limits;
           held = goes.held;
-          gone = All-same Gone answers (h.turning ++ h.leaving) h.asked
+          gone = All-same Gone trace (h.turning ++ h.leaving) h.asked
               (All-append Gone h.turning h.leaving
               (all_turns port_transition Gone place (λ before after. tt) turns old.slab h.turning h.turned made) goes.gone);
         }
@@ -411,29 +411,29 @@ module _ {P : Type 0} (port_transition : P → PortCall → P → Type 0) (setti
         )
 
     visit_serves : (at : Option (SlabPlace (SessionView × QuotaPortsView P))) (old : ServiceView P) (place turns : ℕ)
-        (answers : List (SystemCall P)) (new : ServiceView P) → slice_get old.slab.places place ≡ at →
-        ((n : ℕ) (ports : P) → Contains answers (Connects n (Ready ports)) → Contains all (Connects n (Ready ports))) →
+        (trace : List (SystemCall P)) (new : ServiceView P) → slice_get old.slab.places place ≡ at →
+        ((n : ℕ) (ports : P) → Contains trace (Connects n (Ready ports)) → Contains all (Connects n (Ready ports))) →
         old.slab.limits ≡ run_limits settings → old.counters.turns ≡ settings.turns → AllServed old →
-        VisitsBy port_transition at old place turns answers new → Serves answers old new
-    visit_serves None old place turns answers new there within limits quota held h =
+        VisitsBy port_transition at old place turns trace new → Serves trace old new
+    visit_serves None old place turns trace new there within limits quota held h =
         let slab = ap (λ (s : ServiceView P). s.slab) h.2 in
         record {
           limits = ap (λ (s : SlabView (QuotaPortsView P)). s.limits) slab;
           held = stays old new held slab;
-          gone = All-same Gone answers [] h.1 (All-nil Gone);
+          gone = All-same Gone trace [] h.1 (All-nil Gone);
         }
-    visit_serves (Some Free) old place turns answers new there within limits quota held h =
+    visit_serves (Some Free) old place turns trace new there within limits quota held h =
         let slab = ap (λ (s : ServiceView P). s.slab) h.2 in
         record {
           limits = ap (λ (s : SlabView (QuotaPortsView P)). s.limits) slab;
           held = stays old new held slab;
-          gone = All-same Gone answers [] h.1 (All-nil Gone);
+          gone = All-same Gone trace [] h.1 (All-nil Gone);
         }
-    visit_serves (Some Kept) old place turns answers new there within limits quota held h = by h.0 h.1 h.2 h.3
+    visit_serves (Some Kept) old place turns trace new there within limits quota held h = by h.0 h.1 h.2 h.3
       where
-        by : (connect : Connect P) (told : List (SystemCall P)) → answers ≡ Connects place connect ∷ told →
-            MeetsBy port_transition connect old place turns told new → Serves answers old new
-        by (Ready ports) told e m =
+        by : (connect : Connect P) (joining : List (SystemCall P)) → trace ≡ Connects place connect ∷ joining →
+            JoinsBy port_transition connect old place turns joining new → Serves trace old new
+        by (Ready ports) joining e m =
             let opens = m.1 in
             let now : SessionView × QuotaPortsView P = (opens.0, fresh ports old.counters.turns) in
             let only = one_there place old.slab m.0 (Held now) opens.2 in
@@ -443,17 +443,17 @@ module _ {P : Type 0} (port_transition : P → PortCall → P → Type 0) (setti
             let first = opened_reached old place ports opens.0 limits quota opens.1
             (within place ports (subst (λ (l : List (SystemCall P)). Contains l (Connects place (Ready ports))) (sym e)
             (0, omega arith, refl))) in
-            let goes = given_turns (record old { slab = m.0 }) place turns told new (
+            let goes = given_turns (record old { slab = m.0 }) place turns joining new (
               (λ other apart held_there found. held other held_there (sym (only.beside other apart) ∙ found)),
               held_here m.0 place now (Reached place) at first,
             ) m.2 in
             record {
               limits = goes.limits ∙ only.limits;
               held = goes.held;
-              gone = All-same Gone answers (Connects place (Ready ports) ∷ told) e
-                  (All-cons Gone (Connects place (Ready ports)) told tt goes.gone);
+              gone = All-same Gone trace (Connects place (Ready ports) ∷ joining) e
+                  (All-cons Gone (Connects place (Ready ports)) joining tt goes.gone);
             }
-        by Failed told e m =
+        by Failed joining e m =
             let slab = ap (λ (s : ServiceView P). s.slab) m.2 in
             let free : IsAt new.slab place Free =
             ap (λ (s : SlabView (QuotaPortsView P)). slice_get s.places place) slab ∙ get_set old.slab.places place Free Kept there in
@@ -461,36 +461,36 @@ module _ {P : Type 0} (port_transition : P → PortCall → P → Type 0) (setti
             record {
               limits = only.limits;
               held = each_held place old.slab new.slab Served only held (none_here new.slab place (Served place) free);
-              gone = All-same Gone answers (Connects place Failed ∷ Notifies CannotReach ∷ [])
+              gone = All-same Gone trace (Connects place Failed ∷ Notifies CannotReach ∷ [])
                   (e ∙ ap (λ (l : List (SystemCall P)). Connects place Failed ∷ l) m.1)
                   (All-cons Gone (Connects place Failed) (Notifies CannotReach ∷ []) tt
                   (All-cons Gone (Notifies CannotReach) [] tt (All-nil Gone)));
             }
-        by Pending told e m =
+        by Pending joining e m =
             let slab = ap (λ (s : ServiceView P). s.slab) m.2 in
             record {
               limits = ap (λ (s : SlabView (QuotaPortsView P)). s.limits) slab;
               held = stays old new held slab;
-              gone = All-same Gone answers (Connects place Pending ∷ [])
+              gone = All-same Gone trace (Connects place Pending ∷ [])
                   (e ∙ ap (λ (l : List (SystemCall P)). Connects place Pending ∷ l) m.1)
                   (All-cons Gone (Connects place Pending) [] tt (All-nil Gone));
             }
-    visit_serves (Some (Held now)) old place turns answers new there within limits quota held h =
-        given_turns old place turns answers new
+    visit_serves (Some (Held now)) old place turns trace new there within limits quota held h =
+        given_turns old place turns trace new
         ((λ other apart. held other), (λ own at. still place own (held place own at))) h
 
-    pub visits_serve : (visited : List ℕ) (turns : ℕ) (old : ServiceView P) (answers : List (SystemCall P)) (new : ServiceView P) →
-        ((n : ℕ) (ports : P) → Contains answers (Connects n (Ready ports)) → Contains all (Connects n (Ready ports))) →
+    pub visits_serve : (visited : List ℕ) (turns : ℕ) (old : ServiceView P) (trace : List (SystemCall P)) (new : ServiceView P) →
+        ((n : ℕ) (ports : P) → Contains trace (Connects n (Ready ports)) → Contains all (Connects n (Ready ports))) →
         old.slab.limits ≡ run_limits settings → old.counters.turns ≡ settings.turns → AllServed old →
-        Visits port_transition visited turns old answers new → Serves answers old new
-    visits_serve [] turns old answers new within limits quota held h =
+        Visits port_transition visited turns old trace new → Serves trace old new
+    visits_serve [] turns old trace new within limits quota held h =
         let slab = ap (λ (s : ServiceView P). s.slab) h.2 in
         record {
           limits = ap (λ (s : SlabView (QuotaPortsView P)). s.limits) slab;
           held = stays old new held slab;
-          gone = All-same Gone answers [] h.1 (All-nil Gone);
+          gone = All-same Gone trace [] h.1 (All-nil Gone);
         }
-    visits_serve (place ∷ earlier) turns old answers new within limits quota held h =
+    visits_serve (place ∷ earlier) turns old trace new within limits quota held h =
         let before = visits_serve earlier h.1 old h.3 h.0
         (λ n ports c. within n ports (subst (λ (l : List (SystemCall P)). Contains l (Connects n (Ready ports))) (sym h.6)
         (Contains-append_left h.3 h.4 (Connects n (Ready ports)) c))) limits quota held h.7 in
@@ -503,24 +503,24 @@ module _ {P : Type 0} (port_transition : P → PortCall → P → Type 0) (setti
         record {
           limits = last.limits ∙ before.limits;
           held = last.held;
-          gone = All-same Gone answers (h.3 ++ h.4) h.6 (All-append Gone h.3 h.4 before.gone last.gone);
+          gone = All-same Gone trace (h.3 ++ h.4) h.6 (All-append Gone h.3 h.4 before.gone last.gone);
         }
 
     -- ---- a bot is accepted
 
-    admitted : (old : ServiceView P) (answers : List (SystemCall P)) (new : ServiceView P) → AllServed old →
-        Admits old answers new → Serves answers old new
-    admitted old answers new held (inr none) =
+    admitted : (old : ServiceView P) (trace : List (SystemCall P)) (new : ServiceView P) → AllServed old →
+        Admits old trace new → Serves trace old new
+    admitted old trace new held (inr none) =
         let slab = ap (λ (s : ServiceView P). s.slab) none.2 in
         record {
           limits = ap (λ (s : SlabView (QuotaPortsView P)). s.limits) slab;
           held = stays old new held slab;
-          gone = All-same Gone answers [] none.1 (All-nil Gone);
+          gone = All-same Gone trace [] none.1 (All-nil Gone);
         }
-    admitted old answers new held (inl asks) = by asks.came asks.asked asks.then_kept
+    admitted old trace new held (inl asks) = by asks.came asks.asked asks.then_kept
       where
-        by : (came : Bool) → answers ≡ Accepts asks.place came ∷ [] →
-            new ≡ (if came then accepted_at old asks.place else old) → Serves answers old new
+        by : (came : Bool) → trace ≡ Accepts asks.place came ∷ [] →
+            new ≡ (if came then accepted_at old asks.place else old) → Serves trace old new
         by true e kept =
             let slab = ap (λ (s : ServiceView P). s.slab) kept in
             let at : IsAt new.slab asks.place Kept =
@@ -530,7 +530,7 @@ module _ {P : Type 0} (port_transition : P → PortCall → P → Type 0) (setti
             record {
               limits = only.limits;
               held = each_held asks.place old.slab new.slab Served only held (λ own found. absurd (cc (sym at ∙ found)));
-              gone = All-same Gone answers (Accepts asks.place true ∷ []) e
+              gone = All-same Gone trace (Accepts asks.place true ∷ []) e
                   (All-cons Gone (Accepts asks.place true) [] tt (All-nil Gone));
             }
         by false e kept =
@@ -538,14 +538,14 @@ module _ {P : Type 0} (port_transition : P → PortCall → P → Type 0) (setti
             record {
               limits = ap (λ (s : SlabView (QuotaPortsView P)). s.limits) slab;
               held = stays old new held slab;
-              gone = All-same Gone answers (Accepts asks.place false ∷ []) e
+              gone = All-same Gone trace (Accepts asks.place false ∷ []) e
                   (All-cons Gone (Accepts asks.place false) [] tt (All-nil Gone));
             }
 
-  admitted_turns : (old : ServiceView P) (answers : List (SystemCall P)) (new : ServiceView P) → Admits old answers new →
+  admitted_turns : (old : ServiceView P) (trace : List (SystemCall P)) (new : ServiceView P) → Admits old trace new →
       new.counters.turns ≡ old.counters.turns
-  admitted_turns old answers new (inr none) = ap (λ (s : ServiceView P). s.counters.turns) none.2
-  admitted_turns old answers new (inl asks) = ap (λ (s : ServiceView P). s.counters.turns) asks.then_kept ∙ by asks.came
+  admitted_turns old trace new (inr none) = ap (λ (s : ServiceView P). s.counters.turns) none.2
+  admitted_turns old trace new (inl asks) = ap (λ (s : ServiceView P). s.counters.turns) asks.then_kept ∙ by asks.came
     where
       by : (came : Bool) → (if came then accepted_at old asks.place else old).counters.turns ≡ old.counters.turns
       by true = refl
@@ -560,13 +560,13 @@ module _ {P : Type 0} (port_transition : P → PortCall → P → Type 0) (setti
   heeded_turns false counters = refl
 
   -- the invariant between the rounds of a run
-  pub record Keeps (answers : List (SystemCall P)) (run : ServiceView P) : Type 0 where
+  pub record Keeps (trace : List (SystemCall P)) (run : ServiceView P) : Type 0 where
     pub limits : run.slab.limits ≡ run_limits settings
     pub turns : run.counters.turns ≡ settings.turns
-    pub held : (place : ℕ) → IfHeldAt run.slab.places place (Served answers place)
-    pub gone : All (RetiresClosed port_transition settings answers) answers
-    pub counts : Counts answers (initial_service {P = P} settings) run
-    pub limit : Limited settings answers run.counters
+    pub held : (place : ℕ) → IfHeldAt run.slab.places place (Served trace place)
+    pub gone : All (RetiresClosed port_transition settings trace) trace
+    pub counts : Counts trace (initial_service {P = P} settings) run
+    pub limit : Limited settings trace run.counters
 
   round_counts : (ys : List (SystemCall P)) (old new : ServiceView P) → Round port_transition old ys new → Counts ys old new
   round_counts ys old new r =
@@ -617,9 +617,9 @@ module _ {P : Type 0} (port_transition : P → PortCall → P → Type 0) (setti
   free_place (suc count) zero now e = cc
   free_place (suc count) (suc place) now e = free_place count place now e
 
-  pub rounds_serve : (n : ℕ) (answers : List (SystemCall P)) (run : ServiceView P) →
-      Rounds port_transition n (initial_service settings) answers run → Keeps answers run
-  rounds_serve zero answers run h =
+  pub rounds_serve : (n : ℕ) (trace : List (SystemCall P)) (run : ServiceView P) →
+      Rounds port_transition n (initial_service settings) trace run → Keeps trace run
+  rounds_serve zero trace run h =
       subst (λ (l : List (SystemCall P)). Keeps l run) (sym h.0)
       (subst (λ (r : ServiceView P). Keeps [] r) (sym h.1) (record {
         limits = refl;
@@ -629,15 +629,15 @@ module _ {P : Type 0} (port_transition : P → PortCall → P → Type 0) (setti
         counts = record { came = refl; held = omega arith; met = omega arith };
         limit = first_limit settings;
       }))
-  rounds_serve (suc n) answers run h =
+  rounds_serve (suc n) trace run h =
       subst (λ (l : List (SystemCall P)). Keeps l run) (sym h.3)
       (round_serves h.1 h.2 h.0 run (rounds_serve n h.1 h.0 h.4) h.6)
 
   -- the body requested for a session after these rounds is the longest of the settings
   pub body_refused : (Refuses : ℕ → Type 0) (n : ℕ) (before : List (SystemCall P)) (run : ServiceView P) →
-      Rounds port_transition n (initial_service settings) before run → (answers : List (SystemCall P)) (new : ServiceView P) →
-      BreaksOff Refuses port_transition run answers new → Refuses settings.config.max_body
-  body_refused Refuses n before run rounds answers new breaks =
+      Rounds port_transition n (initial_service settings) before run → (trace : List (SystemCall P)) (new : ServiceView P) →
+      BreaksOff Refuses port_transition run trace new → Refuses settings.config.max_body
+  body_refused Refuses n before run rounds trace new breaks =
       let kept = rounds_serve n before run rounds in
       let visits = breaks.visits in
       let all = before ++ visits.before in
@@ -667,10 +667,10 @@ module _ {P : Type 0} (port_transition : P → PortCall → P → Type 0) (setti
   free_places (suc count) = free_places count
 
   -- rounds until all were served are a whole run
-  pub whole_run : (n : ℕ) (answers : List (SystemCall P)) (end : ServiceView P) →
-      Rounds port_transition n (initial_service settings) answers end → is_done end ≡ true → IsWholeRun port_transition settings answers
-  whole_run n answers end rounds done =
-      let kept = rounds_serve n answers end rounds in
+  pub whole_run : (n : ℕ) (trace : List (SystemCall P)) (end : ServiceView P) →
+      Rounds port_transition n (initial_service settings) trace end → is_done end ≡ true → IsWholeRun port_transition settings trace
+  whole_run n trace end rounds done =
+      let kept = rounds_serve n trace end rounds in
       let over = both_true (have_all_come end.counters) (list_all is_free_place end.slab.places) done in
       let none = nobody_left end.slab.places over.1 in
       let first = nobody_left (all_free settings.max_sessions) (free_places settings.max_sessions) in
@@ -694,14 +694,14 @@ module _ {P : Type 0} (port_transition : P → PortCall → P → Type 0) (setti
       }
 
   -- the law, from the invariant
-  pub sessions_served : (n : ℕ) (answers : List (SystemCall P)) (run : ServiceView P) →
-      Rounds port_transition n (initial_service settings) answers run →
-      AreServed port_transition settings answers run × All (RetiresClosed port_transition settings answers) answers
-      × (sum_over_calls connects answers ≡ sessions_in run.slab + sum_over_calls retires answers)
-      × (run.counters.accepted ≡ sum_over_calls comes answers)
-      × (sum_over_calls comes answers ≡ pending_in run.slab + sum_over_calls connects answers + sum_over_calls unreached answers)
-  sessions_served n answers run rounds =
-      let kept = rounds_serve n answers run rounds in
+  pub sessions_served : (n : ℕ) (trace : List (SystemCall P)) (run : ServiceView P) →
+      Rounds port_transition n (initial_service settings) trace run →
+      AreServed port_transition settings trace run × All (RetiresClosed port_transition settings trace) trace
+      × (sum_over_calls connects trace ≡ sessions_in run.slab + sum_over_calls retires trace)
+      × (run.counters.accepted ≡ sum_over_calls comes trace)
+      × (sum_over_calls comes trace ≡ pending_in run.slab + sum_over_calls connects trace + sum_over_calls unreached trace)
+  sessions_served n trace run rounds =
+      let kept = rounds_serve n trace run rounds in
       let first = nobody_left (all_free settings.max_sessions) (free_places settings.max_sessions) in
       let no_session = first.0 in
       let none_pending = first.1 in

@@ -59,12 +59,12 @@ module _ {P S : Type 0} (transition : S → SystemCall P → S → Type 0) where
   -- the call for one more session, by what the slab returned of it
   pub shown : (first s t : S) (places : List (SlabPlace (SessionView × QuotaPortsView P))) (i : ℕ) (session : SessionView)
       (own : QuotaPortsView P) (ports : P) (bytes : ByteCounts) (status : SessionStatus) →
-      is_at is_held places i ≡ true → IfHeldAt places i (λ held. session ≡ held.0) → IfHeldAt places i (λ held. own ≡ held.1) →
+      is_at is_held places i ≡ true → IfHeldAt places i (λ item. session ≡ item.0) → IfHeldAt places i (λ item. own ≡ item.1) →
       ports ≡ own.ports → bytes ≡ own.bytes → status ≡ status_of session bytes →
       TransitsBy transition first (shows (take i places)) s → transition s (Shows ports status) t →
       TransitsBy transition first (shows (take (suc i) places)) t
-  shown first s t places i session own ports bytes status held is_session is_own is_ports is_bytes is_status before shows_it =
-      let found = held_in (slice_get places i) held in
+  shown first s t places i session own ports bytes status item is_session is_own is_ports is_bytes is_status before shows_it =
+      let found = held_in (slice_get places i) item in
       let now = found.0 in
       let a : session ≡ now.0 = is_session now found.1 in
       let b : own ≡ now.1 = is_own now found.1 in
@@ -79,21 +79,21 @@ module _ {P S : Type 0} (port_transition : P → PortCall → P → Type 0) (tra
   -- the visits so far
   pub record Visited (first : S) (old : ServiceView P) (turns : ℕ) (now : ServiceView P) (system : S) : Type 0 where
     pub visited : List ℕ
-    pub answers : List (SystemCall P)
-    pub transits : TransitsBy transition first answers system
-    pub visits : Visits port_transition visited turns old answers now
+    pub trace : List (SystemCall P)
+    pub transits : TransitsBy transition first trace system
+    pub visits : Visits port_transition visited turns old trace now
 
   pub none_visited : (s : S) (old : ServiceView P) → Visited s old 0 old s
-  none_visited s old = record { visited = []; answers = []; transits = refl; visits = (refl, refl, refl) }
+  none_visited s old = record { visited = []; trace = []; transits = refl; visits = (refl, refl, refl) }
 
   pub another_visit : (s t u : S) (old mid new : ServiceView P) (before place more : ℕ) → Visited s old before mid t →
-      (answers : List (SystemCall P)) → TransitsBy transition t answers u →
-      VisitsNext port_transition before mid place more answers new → Visited s old (before + more) new u
-  another_visit s t u old mid new before place more h answers goes visits = record {
+      (trace : List (SystemCall P)) → TransitsBy transition t trace u →
+      VisitsNext port_transition before mid place more trace new → Visited s old (before + more) new u
+  another_visit s t u old mid new before place more h trace goes visits = record {
     visited = place ∷ h.visited;
-    answers = h.answers ++ answers;
-    transits = transits_then transition h.answers answers s t u h.transits goes;
-    visits = (mid, before, more, h.answers, answers, refl, refl, h.visits, visits);
+    trace = h.trace ++ trace;
+    transits = transits_then transition h.trace trace s t u h.transits goes;
+    visits = (mid, before, more, h.trace, trace, refl, refl, h.visits, visits);
   }
 
 -- whether there is room for one visit more, as the code tests it
@@ -106,19 +106,19 @@ no_room turns h = grind (arith, nat_tests, h)
 module _ {P S : Type 0} (port_transition : P → PortCall → P → Type 0) (transition : S → SystemCall P → S → Type 0) where
   -- all visits of a round, with their trace
   abbrev pub VisitedAll : S → ServiceView P → ServiceView P → S → Type 0
-  VisitedAll first old new system = (answers : List (SystemCall P)) × TransitsBy transition first answers system
-      × VisitsReady port_transition old answers new
+  VisitedAll first old new system = (trace : List (SystemCall P)) × TransitsBy transition first trace system
+      × VisitsReady port_transition old trace new
 
   -- no place is left in the queue
   pub none_left : (s t : S) (old mid new : ServiceView P) (turns : ℕ) → Visited port_transition transition s old turns mid t → new ≡ mid →
       queued_places new.ready ≡ [] → VisitedAll s old new t
   none_left s t old mid new turns h same none = (
-    h.answers,
+    h.trace,
     h.transits,
     record {
       visited = h.visited;
       turns = turns;
-      takes = subst (λ (run : ServiceView P). Visits port_transition h.visited turns old h.answers run) (sym same) h.visits;
+      takes = subst (λ (run : ServiceView P). Visits port_transition h.visited turns old h.trace run) (sym same) h.visits;
       ends = λ room. none;
     },
   )
@@ -127,7 +127,7 @@ module _ {P S : Type 0} (port_transition : P → PortCall → P → Type 0) (tra
   pub all_had : (s t : S) (old new : ServiceView P) (turns : ℕ) → Visited port_transition transition s old turns new t → 32 < turns + 8 →
       VisitedAll s old new t
   all_had s t old new turns h far = (
-    h.answers,
+    h.trace,
     h.transits,
     record {
       visited = h.visited;
@@ -151,18 +151,18 @@ module _ {P S : Type 0} (port_transition : P → PortCall → P → Type 0) (tra
   -- the first n rounds, with their trace of system calls
   abbrev pub Ran : ℕ → ServiceView P → S → ServiceView P → S → Type 0
   Ran n old s new t =
-      (answers : List (SystemCall P)) × TransitsBy transition s answers t × Rounds port_transition n old answers new
+      (trace : List (SystemCall P)) × TransitsBy transition s trace t × Rounds port_transition n old trace new
 
   pub no_rounds : (a : ServiceView P) (s : S) → Ran 0 a s a s
   no_rounds a s = ([], refl, (refl, refl))
 
   pub another_round : (n : ℕ) (a b c : ServiceView P) (s t u : S) → Ran n a s b t → is_done b ≡ false →
-      (answers : List (SystemCall P)) → TransitsBy transition t answers u → Round port_transition b answers c →
+      (trace : List (SystemCall P)) → TransitsBy transition t trace u → Round port_transition b trace c →
       Ran (n + 1) a s c u
-  another_round n a b c s t u h e answers k r = (
-    h.0 ++ answers,
-    transits_then transition h.0 answers s t u h.1 k,
-    rw add-one (b, h.0, answers, refl, h.2, e, r),
+  another_round n a b c s t u h e trace k r = (
+    h.0 ++ trace,
+    transits_then transition h.0 trace s t u h.1 k,
+    rw add-one (b, h.0, trace, refl, h.2, e, r),
   )
 
 -- ---- a run that gives up
@@ -173,8 +173,8 @@ module _ {P S : Type 0} (Refuses : ℕ → Type 0) (port_transition : P → Port
   pub runs_out : (n : ℕ) (mid end : ServiceView P) (s t u : S) →
       Ran port_transition transition n (initial_service settings) s mid t → is_done mid ≡ false → (last : List (SystemCall P)) →
       TransitsBy transition t last u → BreaksOff Refuses port_transition mid last end →
-      (answers : List (SystemCall P)) × TransitsBy transition s answers u
-      × GivesUp Refuses port_transition settings Faults.Memory answers
+      (trace : List (SystemCall P)) × TransitsBy transition s trace u
+      × GivesUp Refuses port_transition settings Faults.Memory trace
   runs_out n mid end s t u ran going_on last goes breaks = (
     ran.0 ++ last,
     transits_then transition ran.0 last s t u ran.1 goes,

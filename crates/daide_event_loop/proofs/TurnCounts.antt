@@ -22,30 +22,30 @@ turns_append (Offered side bytes put ∷ xs) ys = turns_append xs ys
 
 -- a trace of this kind begins no turn
 abbrev BeginsNone : (SessionView → List PortCall → SessionView → Type 0) → Type 0
-BeginsNone Kind = (old : SessionView) (answers : List PortCall) (new : SessionView) → Kind old answers new → turns_in answers ≡ 0
+BeginsNone Kind = (old : SessionView) (trace : List PortCall) (new : SessionView) → Kind old trace new → turns_in trace ≡ 0
 
 clock_begins : BeginsNone AsksClock
-clock_begins old answers new h = ap turns_in h.1
+clock_begins old trace new h = ap turns_in h.1
 
 put_begins : (side : Side) → BeginsNone (Puts side)
-put_begins side old answers new (inl h) = ap turns_in h.1
-put_begins side old answers new (inr h) = ap turns_in h.asked
+put_begins side old trace new (inl h) = ap turns_in h.1
+put_begins side old trace new (inr h) = ap turns_in h.asked
 
 pull_begins : (side : Side) → BeginsNone (Pulls side)
-pull_begins side old answers new (inl h) = ap turns_in h.1
-pull_begins side old answers new (inr h) = ap turns_in h.asked
+pull_begins side old trace new (inl h) = ap turns_in h.1
+pull_begins side old trace new (inr h) = ap turns_in h.asked
 
 then_begins : (First Second : SessionView → List PortCall → SessionView → Type 0) → BeginsNone First → BeginsNone Second →
     BeginsNone (Then First Second)
-then_begins First Second one two old answers new h =
+then_begins First Second one two old trace new h =
     let first = one old h.1 h.0 h.4 in
     let second = two h.0 h.2 new h.5 in
     let all = turns_append h.1 h.2 in
     ap turns_in h.3 ∙ omega (arith, first, second, all)
 
 -- a turn itself begins no other
-pub turn_begins_none : (old : SessionView) (answers : List PortCall) (new : SessionView) → Turn old answers new →
-    turns_in answers ≡ 0
+pub turn_begins_none : (old : SessionView) (trace : List PortCall) (new : SessionView) → Turn old trace new →
+    turns_in trace ≡ 0
 turn_begins_none =
     then_begins AsksClock (Then (Puts Bot) (Then (Puts Server) (Then (Pulls Bot) (Pulls Server)))) clock_begins
     (then_begins (Puts Bot) (Then (Puts Server) (Then (Pulls Bot) (Pulls Server))) (put_begins Bot)

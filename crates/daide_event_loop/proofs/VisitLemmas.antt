@@ -16,30 +16,30 @@ use Rattle.daide_driver.specs.declared.place.SlabPlace.{SlabPlace}
 use Rattle.daide_driver.specs.declared.place.SlabPlace.TheVariants.{Free, Kept, Held}
 use Rattle.daide_driver.specs.Slab.{SlabView, IsAt, IfHeldAt, is_so, is_at, is_kept, is_held, with_place, OpensAt}
 use Rattle.daide_event_loop.specs.QuotaPorts.{QuotaPortsView, RestsBy}
-use Rattle.daide_event_loop.specs.Serving.{ServiceView, TakesTurns, TurnsAndLeaves, MeetsBy, VisitsBy, VisitsPlace, parting, end_by, end_of, queued_again}
+use Rattle.daide_event_loop.specs.Serving.{ServiceView, TakesTurns, TurnsAndLeaves, JoinsBy, VisitsBy, VisitsPlace, retirement, end_by, end_of, queued_again}
 use Rattle.daide_event_loop.proofs.BeginningLemmas.{get_set, held_in, turns_there}
 use Rattle.daide_event_loop.proofs.TransitLemmas.{transits_then}
 
 -- what a removed session reports is its own end
 parted_as : {P : Type 0} (place : ℕ) (now : SessionView × QuotaPortsView P) (ports : QuotaPortsView P) (account : Account)
     (ending : Ending) (field : Option FaultField) → ports ≡ now.1 → IsReportedOf now.0 account ending field →
-    parting place ports (end_by ports.first_synthetic_end (Some ending) account field) ≡ parting place now.1 (end_of now)
+    retirement place ports (end_by ports.first_synthetic_end (Some ending) account field) ≡ retirement place now.1 (end_of now)
 parted_as {P} place now ports account ending field e r =
-    ap (λ (m : QuotaPortsView P). parting place m (end_by m.first_synthetic_end (Some ending) account field)) e
-    ∙ ap (λ (a : Account). parting place now.1 (end_by now.1.first_synthetic_end (Some ending) a field)) r.0
-    ∙ ap (λ (o : Option Ending). parting place now.1 (end_by now.1.first_synthetic_end o now.0.account field)) (sym r.1)
-    ∙ ap (λ (f : Option FaultField). parting place now.1 (end_by now.1.first_synthetic_end (ending_in now.0.state.phase) now.0.account f)) r.2
+    ap (λ (m : QuotaPortsView P). retirement place m (end_by m.first_synthetic_end (Some ending) account field)) e
+    ∙ ap (λ (a : Account). retirement place now.1 (end_by now.1.first_synthetic_end (Some ending) a field)) r.0
+    ∙ ap (λ (o : Option Ending). retirement place now.1 (end_by now.1.first_synthetic_end o now.0.account field)) (sym r.1)
+    ∙ ap (λ (f : Option FaultField). retirement place now.1 (end_by now.1.first_synthetic_end (ending_in now.0.state.phase) now.0.account f)) r.2
 
 module _ {P S : Type 0} (port_transition : P → PortCall → P → Type 0) (transition : S → SystemCall P → S → Type 0) where
   -- turns of a visit, with their trace
   abbrev pub HadTurns : S → SlabView (QuotaPortsView P) → ℕ → ℕ → SlabView (QuotaPortsView P) → S → Type 0
   HadTurns first old place turns new system =
-      (answers : List (SystemCall P)) × TransitsBy transition first answers system × TakesTurns port_transition old place turns answers new
+      (trace : List (SystemCall P)) × TransitsBy transition first trace system × TakesTurns port_transition old place turns trace new
 
   -- turns with what comes after them, with their trace
   abbrev pub HadVisit : S → ServiceView P → ℕ → ℕ → ServiceView P → S → Type 0
-  HadVisit first old place turns new system = (answers : List (SystemCall P)) × TransitsBy transition first answers system
-      × TurnsAndLeaves port_transition old place turns answers new
+  HadVisit first old place turns new system = (trace : List (SystemCall P)) × TransitsBy transition first trace system
+      × TurnsAndLeaves port_transition old place turns trace new
 
   -- the session is still there
   pub there_after : (s t : S) (old new : SlabView (QuotaPortsView P)) (place turns : ℕ) → HadTurns s old place turns new t →
@@ -49,24 +49,24 @@ module _ {P S : Type 0} (port_transition : P → PortCall → P → Type 0) (tra
   -- a closed session is retired
   pub retired : (s t u : S) (old : ServiceView P) (place turns : ℕ) (turned slab : SlabView (QuotaPortsView P))
       (session : SessionView) (ports : QuotaPortsView P) (account : Account) (ending : Ending) (field : Option FaultField) →
-      HadTurns s old.slab place turns turned t → IfHeldAt turned.places place (λ held. session ≡ held.0) → is_closed session ≡ true →
-      slab ≡ with_place turned place Free → IfHeldAt turned.places place (λ held. ports ≡ held.1) →
-      IfHeldAt turned.places place (λ held. IsReportedOf held.0 account ending field) →
-      TransitsBy transition t (parting place ports (end_by ports.first_synthetic_end (Some ending) account field)) u →
+      HadTurns s old.slab place turns turned t → IfHeldAt turned.places place (λ item. session ≡ item.0) → is_closed session ≡ true →
+      slab ≡ with_place turned place Free → IfHeldAt turned.places place (λ item. ports ≡ item.1) →
+      IfHeldAt turned.places place (λ item. IsReportedOf item.0 account ending field) →
+      TransitsBy transition t (retirement place ports (end_by ports.first_synthetic_end (Some ending) account field)) u →
       HadVisit s old place turns (record old { slab = slab }) u
   retired s t u old place turns turned slab session ports account ending field h is closed free own reported goes =
       let found = held_in (slice_get turned.places place) (there_after s t old.slab turned place turns h) in
       let now = found.0 in
       let over : is_closed now.0 ≡ true = ap is_closed (sym (is now found.1)) ∙ closed in
       let same = parted_as place now ports account ending field (own now found.1) (reported now found.1) in (
-        h.0 ++ parting place now.1 (end_of now),
-        transits_then transition h.0 (parting place now.1 (end_of now)) s t u h.1
+        h.0 ++ retirement place now.1 (end_of now),
+        transits_then transition h.0 (retirement place now.1 (end_of now)) s t u h.1
             (subst (λ (l : List (SystemCall P)). TransitsBy transition t l u) same goes),
         record {
           now = now;
           turned = turned;
           turning = h.0;
-          leaving = parting place now.1 (end_of now);
+          leaving = retirement place now.1 (end_of now);
           takes = h.2;
           there = found.1;
           leaves = rw over (refl, ap (λ (k : SlabView (QuotaPortsView P)). record old { slab = k }) free);
@@ -77,9 +77,9 @@ module _ {P S : Type 0} (port_transition : P → PortCall → P → Type 0) (tra
   -- an open one rests, or joins the end of the queue
   pub left_open : (s t u : S) (old new : ServiceView P) (place turns : ℕ) (turned : SlabView (QuotaPortsView P)) (session : SessionView)
       (ports : QuotaPortsView P) (rests : Bool) →
-      HadTurns s old.slab place turns turned t → IfHeldAt turned.places place (λ held. session ≡ held.0) → is_closed session ≡ false →
-      IfHeldAt turned.places place (λ held. ports ≡ held.1) →
-      ((answers : List (SystemCall P)) × TransitsBy transition t answers u × RestsBy ports.made_progress place ports.ports answers rests) →
+      HadTurns s old.slab place turns turned t → IfHeldAt turned.places place (λ item. session ≡ item.0) → is_closed session ≡ false →
+      IfHeldAt turned.places place (λ item. ports ≡ item.1) →
+      ((trace : List (SystemCall P)) × TransitsBy transition t trace u × RestsBy ports.made_progress place ports.ports trace rests) →
       new ≡ (if rests then record old { slab = turned } else queued_again (record old { slab = turned }) place) →
       HadVisit s old place turns new u
   left_open s t u old new place turns turned session ports rests h is lives own rest leaves =
@@ -113,34 +113,34 @@ module _ {P : Type 0} (port_transition : P → PortCall → P → Type 0) where
 
   -- one that has a session is visited by its turns
   pub visited_held : (at : Option (SlabPlace (SessionView × QuotaPortsView P))) (old : ServiceView P) (place turns : ℕ)
-      (answers : List (SystemCall P)) (new : ServiceView P) → is_so is_held at ≡ true →
-      TurnsAndLeaves port_transition old place turns answers new → VisitsBy port_transition at old place turns answers new
-  visited_held None old place turns answers new e h = absurd (cc)
-  visited_held (Some Free) old place turns answers new e h = absurd (cc)
-  visited_held (Some Kept) old place turns answers new e h = absurd (cc)
-  visited_held (Some (Held now)) old place turns answers new e h = h
+      (trace : List (SystemCall P)) (new : ServiceView P) → is_so is_held at ≡ true →
+      TurnsAndLeaves port_transition old place turns trace new → VisitsBy port_transition at old place turns trace new
+  visited_held None old place turns trace new e h = absurd (cc)
+  visited_held (Some Free) old place turns trace new e h = absurd (cc)
+  visited_held (Some Kept) old place turns trace new e h = absurd (cc)
+  visited_held (Some (Held now)) old place turns trace new e h = h
 
   -- one that is kept is visited by the result of its connect
-  pub visited_kept : (old : ServiceView P) (place turns : ℕ) (connect : Connect P) (told : List (SystemCall P)) (new : ServiceView P) →
-      IsAt old.slab place Kept → MeetsBy port_transition connect old place turns told new →
-      VisitsPlace port_transition old place turns (Connects place connect ∷ told) new
-  visited_kept old place turns connect told new kept h =
-      subst (λ (at : Option (SlabPlace (SessionView × QuotaPortsView P))). VisitsBy port_transition at old place turns (Connects place connect ∷ told) new)
-      (sym kept) (connect, told, refl, h)
+  pub visited_kept : (old : ServiceView P) (place turns : ℕ) (connect : Connect P) (joining : List (SystemCall P)) (new : ServiceView P) →
+      IsAt old.slab place Kept → JoinsBy port_transition connect old place turns joining new →
+      VisitsPlace port_transition old place turns (Connects place connect ∷ joining) new
+  visited_kept old place turns connect joining new kept h =
+      subst (λ (at : Option (SlabPlace (SessionView × QuotaPortsView P))). VisitsBy port_transition at old place turns (Connects place connect ∷ joining) new)
+      (sym kept) (connect, joining, refl, h)
 
   -- a visit counts one turn at least, and a quantum at most
-  pub visit_turns : (at : Option (SlabPlace (SessionView × QuotaPortsView P))) (old : ServiceView P) (place turns : ℕ) (answers : List (SystemCall P))
-      (new : ServiceView P) → VisitsBy port_transition at old place turns answers new → (0 < turns) × (turns ≤ 8)
-  visit_turns None old place turns answers new h = let one = h.0 in (omega (arith, one), omega (arith, one))
-  visit_turns (Some Free) old place turns answers new h = let one = h.0 in (omega (arith, one), omega (arith, one))
-  visit_turns (Some Kept) old place turns answers new h = by h.0 h.1 h.3
+  pub visit_turns : (at : Option (SlabPlace (SessionView × QuotaPortsView P))) (old : ServiceView P) (place turns : ℕ) (trace : List (SystemCall P))
+      (new : ServiceView P) → VisitsBy port_transition at old place turns trace new → (0 < turns) × (turns ≤ 8)
+  visit_turns None old place turns trace new h = let one = h.0 in (omega (arith, one), omega (arith, one))
+  visit_turns (Some Free) old place turns trace new h = let one = h.0 in (omega (arith, one), omega (arith, one))
+  visit_turns (Some Kept) old place turns trace new h = by h.0 h.1 h.3
     where
-      by : (connect : Connect P) (told : List (SystemCall P)) → MeetsBy port_transition connect old place turns told new →
+      by : (connect : Connect P) (joining : List (SystemCall P)) → JoinsBy port_transition connect old place turns joining new →
           (0 < turns) × (turns ≤ 8)
-      by (Ready ports) told m = (m.2.takes.some, m.2.takes.few)
-      by Failed told m = let one = m.0 in (omega (arith, one), omega (arith, one))
-      by Pending told m = let one = m.0 in (omega (arith, one), omega (arith, one))
-  visit_turns (Some (Held now)) old place turns answers new h = (h.takes.some, h.takes.few)
+      by (Ready ports) joining m = (m.2.takes.some, m.2.takes.few)
+      by Failed joining m = let one = m.0 in (omega (arith, one), omega (arith, one))
+      by Pending joining m = let one = m.0 in (omega (arith, one), omega (arith, one))
+  visit_turns (Some (Held now)) old place turns trace new h = (h.takes.some, h.takes.few)
 
 -- a place that is kept
 pub kept_in : {T : Type 0} (at : Option (SlabPlace T)) → is_so is_kept at ≡ true → at ≡ Some Kept

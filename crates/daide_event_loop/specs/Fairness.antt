@@ -12,8 +12,8 @@ turn_calls _ = 0
 
 -- the calls of a round begin at most 32 turns
 abbrev pub RoundsAreShort : {P : Type 0} → (P → PortCall → P → Type 0) → Type 0
-RoundsAreShort {P} transition = (old new : ServiceView P) (answers : List (SystemCall P)) →
-    Round transition old answers new → sum_over_calls turn_calls answers ≤ round_turns
+RoundsAreShort {P} transition = (old new : ServiceView P) (trace : List (SystemCall P)) →
+    Round transition old trace new → sum_over_calls turn_calls trace ≤ round_turns
 
 -- a place is in a list, and this many places are before it
 abbrev pub IsBehind : List ℕ → ℕ → ℕ → Type 0
@@ -21,13 +21,13 @@ IsBehind places count place = slice_get places count ≡ Some place
 
 -- A place that was at rest and is behind k others after the poll of a round is visited in the round, or has at least three
 -- fewer before it then. One that had turns before is visited in the round, or has at least one fewer before it.
-pub record Advances {P : Type 0} (transition : P → PortCall → P → Type 0) (old new : ServiceView P) (answers : List (SystemCall P))
-    (round : Round transition old answers new) (place k : ℕ) : Type 0 where
+pub record Advances {P : Type 0} (transition : P → PortCall → P → Type 0) (old new : ServiceView P) (trace : List (SystemCall P))
+    (round : Round transition old trace new) (place k : ℕ) : Type 0 where
   pub fresh : IsBehind (polled round.woken round.orders old).ready.fresh k place →
       Contains round.visits.visited place ⊎ ((left : ℕ) × (left + 3 ≤ k) × IsBehind new.ready.fresh left place)
   pub moving : IsBehind (polled round.woken round.orders old).ready.moving k place →
       Contains round.visits.visited place ⊎ ((left : ℕ) × (left < k) × IsBehind new.ready.moving left place)
 
 abbrev pub ReadyPlacesAdvance : {P : Type 0} → (P → PortCall → P → Type 0) → Type 0
-ReadyPlacesAdvance {P} transition = (old new : ServiceView P) (answers : List (SystemCall P)) →
-    (round : Round transition old answers new) → (place k : ℕ) → Advances transition old new answers round place k
+ReadyPlacesAdvance {P} transition = (old new : ServiceView P) (trace : List (SystemCall P)) →
+    (round : Round transition old trace new) → (place k : ℕ) → Advances transition old new trace round place k

@@ -50,10 +50,10 @@ pub record AreAlike (one : SessionView) (calls : List PortCall) (other : Session
 -- calls of the two sessions returned the same, the sessions are alike, and so are the ends that are reported of them.
 abbrev pub SessionsAreIndependent : {P Q : Type 0} → (P → PortCall → P → Type 0) → (Q → PortCall → Q → Type 0) → Type 0
 SessionsAreIndependent {P} {Q} transition other_transition =
-    (settings other_settings : Settings) (answers : List (SystemCall P)) (other_answers : List (SystemCall Q))
+    (settings other_settings : Settings) (trace : List (SystemCall P)) (other_trace : List (SystemCall Q))
     (now : SessionView × QuotaPortsView P) (other_now : SessionView × QuotaPortsView Q)
-    (session : IsServed transition settings answers now)
-    (other_session : IsServed other_transition other_settings other_answers other_now) →
+    (session : IsServed transition settings trace now)
+    (other_session : IsServed other_transition other_settings other_trace other_now) →
     HaveSameRules settings other_settings → results_of session.history ≡ results_of other_session.history →
     AreAlike now.0 session.history other_now.0 other_session.history
     × ((end other_end : SessionEnd) → IsEndOf (run_limits settings) settings.turns session.history now.0 end →

@@ -56,7 +56,7 @@ progress_after (Offered side bytes put) made_progress = made_progress || is_loss
 -- the same after several calls, one after another
 abbrev pub progress_by : List PortCall → Bool → Bool
 progress_by [] made_progress = made_progress
-progress_by (answer ∷ answers) made_progress = progress_by answers (progress_after answer made_progress)
+progress_by (call ∷ trace) made_progress = progress_by trace (progress_after call made_progress)
 
 -- the results beyond the quota: the clock reports nothing, both sides have ended, and both wires fail
 abbrev pub IsSpentAnswer : PortCall → Type 0
@@ -67,28 +67,28 @@ IsSpentAnswer (Offered side bytes put) = put ≡ Failed
 
 -- the first end or failure returned without a call to the ports inside; later ones do not replace it
 abbrev pub reported_where : Option ℕ → Ending → Option Ending → Option Ending
-reported_where (Some turns) ending told = told
-reported_where None ending told = option_or told (Some ending)
+reported_where (Some turns) ending synthetic = synthetic
+reported_where None ending synthetic = option_or synthetic (Some ending)
 
 abbrev pub reported_after : PortCall → Option ℕ → Option Ending → Option Ending
-reported_after TurnBegins left told = told
-reported_after (Clock event) left told = told
-reported_after (Pulled side buffer pull bytes) left told = reported_where left (Endings.Ended side) told
-reported_after (Offered side bytes put) left told = reported_where left (Endings.Lost side) told
+reported_after TurnBegins left synthetic = synthetic
+reported_after (Clock event) left synthetic = synthetic
+reported_after (Pulled side buffer pull bytes) left synthetic = reported_where left (Endings.Ended side) synthetic
+reported_after (Offered side bytes put) left synthetic = reported_where left (Endings.Lost side) synthetic
 
 -- within the quota the ports inside are called; beyond it they are not
 abbrev pub EvolvesWhile : {P : Type 0} → (P → PortCall → P → Type 0) → Option ℕ → P → PortCall → P → Type 0
-EvolvesWhile transition (Some turns) old answer new = transition old answer new
-EvolvesWhile transition None old answer new = IsSpentAnswer answer × (new ≡ old)
+EvolvesWhile transition (Some turns) old call new = transition old call new
+EvolvesWhile transition None old call new = IsSpentAnswer call × (new ≡ old)
 
 -- the effect of a call with this result
-pub record Meters {P : Type 0} (transition : P → PortCall → P → Type 0) (old : QuotaPortsView P) (answer : PortCall)
+pub record Meters {P : Type 0} (transition : P → PortCall → P → Type 0) (old : QuotaPortsView P) (call : PortCall)
     (new : QuotaPortsView P) : Type 0 where
-  pub turns_left : new.turns_left ≡ left_after answer old.turns_left
-  pub made_progress : new.made_progress ≡ progress_after answer old.made_progress
-  pub first_synthetic_end : new.first_synthetic_end ≡ reported_after answer new.turns_left old.first_synthetic_end
-  pub bytes : new.bytes ≡ counted_after answer old.bytes
-  pub ports : EvolvesWhile transition new.turns_left old.ports answer new.ports
+  pub turns_left : new.turns_left ≡ left_after call old.turns_left
+  pub made_progress : new.made_progress ≡ progress_after call old.made_progress
+  pub first_synthetic_end : new.first_synthetic_end ≡ reported_after call new.turns_left old.first_synthetic_end
+  pub bytes : new.bytes ≡ counted_after call old.bytes
+  pub ports : EvolvesWhile transition new.turns_left old.ports call new.ports
 
 -- ---- the system at the beginning of a turn, and after the last one
 
@@ -102,5 +102,5 @@ beginning place old new = beginning_where new.turns_left place old.ports new.por
 
 -- whether a session rests: not after a turn that made progress, without a call; else the system says so
 abbrev pub RestsBy : {P : Type 0} → Bool → ℕ → P → List (SystemCall P) → Bool → Type 0
-RestsBy true place ports answers rests = (answers ≡ []) × (rests ≡ false)
-RestsBy false place ports answers rests = answers ≡ Rests place ports rests ∷ []
+RestsBy true place ports trace rests = (trace ≡ []) × (rests ≡ false)
+RestsBy false place ports trace rests = trace ≡ Rests place ports rests ∷ []

@@ -32,11 +32,11 @@ run_limits settings = limits_with settings.config (words_of settings.words)
 -- A session of a run: the connect of the bot at a place delivered its ports, with a full quota of turns; and by all its
 -- port calls since, it has this property.
 pub record IsSessionOfRun {P : Type 0} (transition : P → PortCall → P → Type 0)
-    (Kind : Limits → List PortCall → SessionView → Type 0) (settings : Settings) (answers : List (SystemCall P))
+    (Kind : Limits → List PortCall → SessionView → Type 0) (settings : Settings) (trace : List (SystemCall P))
     (now : SessionView × QuotaPortsView P) : Type 0 where
   pub place : ℕ
   pub ports : P
-  pub came : Contains answers (Connects place (Ready ports))
+  pub came : Contains trace (Connects place (Ready ports))
   pub history : List PortCall
   pub answered : EvolvesBy (Meters transition) (fresh ports settings.turns) history now.1
   pub stands : Kind (run_limits settings) history now.0
@@ -53,11 +53,11 @@ IsServed transition = IsSessionOfRun transition IsServedSession
 -- the port calls within the quota: those before the first turn beyond it
 abbrev pub while_left : ℕ → List PortCall → List PortCall
 while_left turns [] = []
-while_left zero (TurnBegins ∷ answers) = []
-while_left (suc turns) (TurnBegins ∷ answers) = TurnBegins ∷ while_left turns answers
-while_left turns (Clock event ∷ answers) = Clock event ∷ while_left turns answers
-while_left turns (Pulled side buffer pull bytes ∷ answers) = Pulled side buffer pull bytes ∷ while_left turns answers
-while_left turns (Offered side bytes put ∷ answers) = Offered side bytes put ∷ while_left turns answers
+while_left zero (TurnBegins ∷ trace) = []
+while_left (suc turns) (TurnBegins ∷ trace) = TurnBegins ∷ while_left turns trace
+while_left turns (Clock event ∷ trace) = Clock event ∷ while_left turns trace
+while_left turns (Pulled side buffer pull bytes ∷ trace) = Pulled side buffer pull bytes ∷ while_left turns trace
+while_left turns (Offered side bytes put ∷ trace) = Offered side bytes put ∷ while_left turns trace
 
 -- the event that ended a session, if there was one; otherwise its turns were spent while it was open
 abbrev pub cause_of : Option Ending → Cause
@@ -75,17 +75,17 @@ IsEndOf limits turns history session end =
 -- retired ports are those of a closed session of this place that was served, and the reported end is that of this session
 abbrev pub RetiresClosed : {P : Type 0} → (P → PortCall → P → Type 0) → Settings → List (SystemCall P) →
     SystemCall P → Type 0
-RetiresClosed {P} transition settings answers (Retires place ports end) =
+RetiresClosed {P} transition settings trace (Retires place ports end) =
     (now : SessionView × QuotaPortsView P) × (now.1.ports ≡ ports) × (is_closed now.0 ≡ true)
-    × ((served : IsServed transition settings answers now) × (served.place ≡ place)
+    × ((served : IsServed transition settings trace now) × (served.place ≡ place)
     × IsEndOf (run_limits settings) settings.turns served.history now.0 end)
-RetiresClosed transition settings answers (Polls may_block woken orders) = Unit {0}
-RetiresClosed transition settings answers (Shows ports status) = Unit {0}
-RetiresClosed transition settings answers (Accepts place came) = Unit {0}
-RetiresClosed transition settings answers (Connects place connect) = Unit {0}
-RetiresClosed transition settings answers (BeginsTurn place before after) = Unit {0}
-RetiresClosed transition settings answers (Rests place ports rests) = Unit {0}
-RetiresClosed transition settings answers (Notifies notice) = Unit {0}
+RetiresClosed transition settings trace (Polls may_block woken orders) = Unit {0}
+RetiresClosed transition settings trace (Shows ports status) = Unit {0}
+RetiresClosed transition settings trace (Accepts place came) = Unit {0}
+RetiresClosed transition settings trace (Connects place connect) = Unit {0}
+RetiresClosed transition settings trace (BeginsTurn place before after) = Unit {0}
+RetiresClosed transition settings trace (Rests place ports rests) = Unit {0}
+RetiresClosed transition settings trace (Notifies notice) = Unit {0}
 
 -- the number of ports that a call delivered, and the number that it retired
 abbrev pub connects : {P : Type 0} → SystemCall P → ℕ
@@ -107,7 +107,7 @@ unreached _ = 0
 
 abbrev pub sum_over_calls : {P : Type 0} → (SystemCall P → ℕ) → List (SystemCall P) → ℕ
 sum_over_calls count [] = 0
-sum_over_calls count (answer ∷ answers) = count answer + sum_over_calls count answers
+sum_over_calls count (answer ∷ trace) = count answer + sum_over_calls count trace
 
 -- ---- the operator's orders
 
@@ -127,61 +127,61 @@ orders_with Has _ = 0
 
 -- how many orders to stop accepting, and to show the sessions, there were in a trace
 abbrev pub stop_orders : {P : Type 0} → List (SystemCall P) → ℕ
-stop_orders answers = sum_over_calls (orders_with (λ orders. orders.stops_accepting)) answers
+stop_orders trace = sum_over_calls (orders_with (λ orders. orders.stops_accepting)) trace
 
 abbrev pub show_orders : {P : Type 0} → List (SystemCall P) → ℕ
-show_orders answers = sum_over_calls (orders_with (λ orders. orders.shows_sessions)) answers
+show_orders trace = sum_over_calls (orders_with (λ orders. orders.shows_sessions)) trace
 
 -- after each order to stop accepting, accept is not called any more
 abbrev pub HeedsStops : {P : Type 0} → List (SystemCall P) → Type 0
 HeedsStops [] = Unit {0}
-HeedsStops (answer ∷ answers) =
-    (0 < orders_with (λ orders. orders.stops_accepting) answer → sum_over_calls accept_calls answers ≡ 0) × HeedsStops answers
+HeedsStops (answer ∷ trace) =
+    (0 < orders_with (λ orders. orders.stops_accepting) answer → sum_over_calls accept_calls trace ≡ 0) × HeedsStops trace
 
 -- After any rounds of a run. After an order to stop accepting, accept is not called any more, and the run is done as soon
 -- as each place is free. Without such an order, the run is done when all bots of its settings
 -- came and were served. Without an order to show the sessions, none is shown.
-pub record HeedsOrders {P : Type 0} (settings : Settings) (answers : List (SystemCall P)) (run : ServiceView P) : Type 0 where
-  pub stops : HeedsStops answers
-  pub ends : 0 < stop_orders answers → is_done run ≡ list_all is_free_place run.slab.places
-  pub goes_on : stop_orders answers ≡ 0 → run.counters.sessions ≡ bots_in_all settings
-  pub shows : show_orders answers ≡ 0 → sum_over_calls show_calls answers ≡ 0
+pub record HeedsOrders {P : Type 0} (settings : Settings) (trace : List (SystemCall P)) (run : ServiceView P) : Type 0 where
+  pub stops : HeedsStops trace
+  pub ends : 0 < stop_orders trace → is_done run ≡ list_all is_free_place run.slab.places
+  pub goes_on : stop_orders trace ≡ 0 → run.counters.sessions ≡ bots_in_all settings
+  pub shows : show_orders trace ≡ 0 → sum_over_calls show_calls trace ≡ 0
 
 abbrev pub OrdersAreHeeded : {P : Type 0} → (P → PortCall → P → Type 0) → Type 0
-OrdersAreHeeded {P} transition = (settings : Settings) (n : ℕ) (answers : List (SystemCall P)) (run : ServiceView P) →
-    Rounds transition n (initial_service settings) answers run → HeedsOrders settings answers run
+OrdersAreHeeded {P} transition = (settings : Settings) (n : ℕ) (trace : List (SystemCall P)) (run : ServiceView P) →
+    Rounds transition n (initial_service settings) trace run → HeedsOrders settings trace run
 
 -- ---- a whole run
 
 -- each session that a run has is served, at its place
 abbrev pub AreServed : {P : Type 0} → (P → PortCall → P → Type 0) → Settings → List (SystemCall P) → ServiceView P → Type 0
-AreServed transition settings answers run = (place : ℕ) →
-    IfHeldAt run.slab.places place (λ now. (served : IsServed transition settings answers now) × (served.place ≡ place))
+AreServed transition settings trace run = (place : ℕ) →
+    IfHeldAt run.slab.places place (λ now. (served : IsServed transition settings trace now) × (served.place ≡ place))
 
 -- After any rounds of a run: each session that it has is served, at the place that its bot got, and so is each that it
 -- retired. Of the ports delivered it has all that it did not retire. It counts each bot that it accepted. For each of these
 -- bots the connect is pending, it got a session, or it could not reach the server.
 abbrev pub SessionsAreServed : {P : Type 0} → (P → PortCall → P → Type 0) → Type 0
-SessionsAreServed {P} transition = (settings : Settings) (n : ℕ) (answers : List (SystemCall P)) (run : ServiceView P) →
-    Rounds transition n (initial_service settings) answers run →
-    AreServed transition settings answers run × All (RetiresClosed transition settings answers) answers
-    × (sum_over_calls connects answers ≡ sessions_in run.slab + sum_over_calls retires answers)
-    × (run.counters.accepted ≡ sum_over_calls comes answers)
-    × (sum_over_calls comes answers ≡ pending_in run.slab + sum_over_calls connects answers + sum_over_calls unreached answers)
+SessionsAreServed {P} transition = (settings : Settings) (n : ℕ) (trace : List (SystemCall P)) (run : ServiceView P) →
+    Rounds transition n (initial_service settings) trace run →
+    AreServed transition settings trace run × All (RetiresClosed transition settings trace) trace
+    × (sum_over_calls connects trace ≡ sessions_in run.slab + sum_over_calls retires trace)
+    × (run.counters.accepted ≡ sum_over_calls comes trace)
+    × (sum_over_calls comes trace ≡ pending_in run.slab + sum_over_calls connects trace + sum_over_calls unreached trace)
 
 -- A whole run of settings: rounds until all bots were served. So each completed connect was a
 -- session, which was served, and retired as a closed one. By all its port calls it is bounded and exact, and none is
 -- lost. As many bots were accepted as the settings say (`bots_in_all`), or at most so many if there was an order to stop
 -- accepting, after which none was accepted. For each, ports were retired or the server was unreachable.
 pub record IsWholeRun {P : Type 0} (transition : P → PortCall → P → Type 0) (settings : Settings)
-    (answers : List (SystemCall P)) : Type 0 where
-  pub serves : Serves transition settings answers
-  pub each : All (RetiresClosed transition settings answers) answers
-  pub none_lost : sum_over_calls connects answers ≡ sum_over_calls retires answers
-  pub all_came : stop_orders answers ≡ 0 → sum_over_calls comes answers ≡ bots_in_all settings
-  pub at_most : sum_over_calls comes answers ≤ bots_in_all settings
-  pub stops : HeedsStops answers
-  pub all_served : sum_over_calls comes answers ≡ sum_over_calls retires answers + sum_over_calls unreached answers
+    (trace : List (SystemCall P)) : Type 0 where
+  pub serves : Serves transition settings trace
+  pub each : All (RetiresClosed transition settings trace) trace
+  pub none_lost : sum_over_calls connects trace ≡ sum_over_calls retires trace
+  pub all_came : stop_orders trace ≡ 0 → sum_over_calls comes trace ≡ bots_in_all settings
+  pub at_most : sum_over_calls comes trace ≤ bots_in_all settings
+  pub stops : HeedsStops trace
+  pub all_served : sum_over_calls comes trace ≡ sum_over_calls retires trace + sum_over_calls unreached trace
 
 -- Whether a turn made progress, which decides if its session may rest, follows from the port calls of the turn.
 abbrev pub MovesAreAnswered : {P : Type 0} → (P → PortCall → P → Type 0) → Type 0
@@ -191,10 +191,10 @@ MovesAreAnswered {P} transition = (old mid new : SessionView × QuotaPortsView P
 -- how many turns began in a history
 abbrev pub turns_in : List PortCall → ℕ
 turns_in [] = 0
-turns_in (TurnBegins ∷ answers) = suc (turns_in answers)
-turns_in (Clock event ∷ answers) = turns_in answers
-turns_in (Pulled side buffer pull bytes ∷ answers) = turns_in answers
-turns_in (Offered side bytes put ∷ answers) = turns_in answers
+turns_in (TurnBegins ∷ trace) = suc (turns_in trace)
+turns_in (Clock event ∷ trace) = turns_in trace
+turns_in (Pulled side buffer pull bytes ∷ trace) = turns_in trace
+turns_in (Offered side bytes put ∷ trace) = turns_in trace
 
 -- Ports with a quota of turns are spent exactly if more turns began than the quota has.
 abbrev pub TurnsAreCounted : {P : Type 0} → (P → PortCall → P → Type 0) → Type 0

@@ -100,7 +100,7 @@ abbrev pub shows : {P : Type 0} → List (SlabPlace (SessionView × QuotaPortsVi
 shows [] = []
 shows (Free ∷ places) = shows places
 shows (Kept ∷ places) = shows places
-shows (Held held ∷ places) = Shows held.1.ports (status_of held.0 held.1.bytes) ∷ shows places
+shows (Held item ∷ places) = Shows item.1.ports (status_of item.0 item.1.bytes) ∷ shows places
 
 abbrev pub shows_where : {P : Type 0} → Bool → List (SlabPlace (SessionView × QuotaPortsView P)) → List (SystemCall P)
 shows_where true places = shows places
@@ -125,13 +125,13 @@ fresh ports turns = record {
 -- a turn of a session begins with its own ports, and the system begins it with these while turns are left
 abbrev pub OpensTurn : {P : Type 0} → (P → PortCall → P → Type 0) → ℕ → List (SystemCall P) →
     SessionView × QuotaPortsView P → SessionView × QuotaPortsView P → Type 0
-OpensTurn transition place answers old new = IsBegun (Meters transition) old new × (answers ≡ beginning place old.1 new.1)
+OpensTurn transition place trace old new = IsBegun (Meters transition) old new × (trace ≡ beginning place old.1 new.1)
 
 -- the session at this place has one turn: it begins and runs
 pub record TakesTurn {P : Type 0} (transition : P → PortCall → P → Type 0) (old : SlabView (QuotaPortsView P)) (place : ℕ)
-    (answers : List (SystemCall P)) (new : SlabView (QuotaPortsView P)) : Type 0 where
+    (trace : List (SystemCall P)) (new : SlabView (QuotaPortsView P)) : Type 0 where
   pub begun : SlabView (QuotaPortsView P)
-  pub begins : ChangesAt (OpensTurn transition place answers) old place begun
+  pub begins : ChangesAt (OpensTurn transition place trace) old place begun
   pub runs : ChangesAt (IsTurned (Meters transition)) begun place new
 
 -- whether the last turn of the session at a place made progress; not if there is none at this place
@@ -139,15 +139,15 @@ abbrev pub has_moved_in : {P : Type 0} → Option (SlabPlace (SessionView × Quo
 has_moved_in None = false
 has_moved_in (Some Free) = false
 has_moved_in (Some Kept) = false
-has_moved_in (Some (Held held)) = held.1.made_progress
+has_moved_in (Some (Held item)) = item.1.made_progress
 
 -- n turns of the session at this place, each but the first after one that made progress
 abbrev pub TurnsInRow : {P : Type 0} → (P → PortCall → P → Type 0) → ℕ → SlabView (QuotaPortsView P) → ℕ →
     List (SystemCall P) → SlabView (QuotaPortsView P) → Type 0
-TurnsInRow transition zero old place answers new = (answers ≡ []) × (new ≡ old)
-TurnsInRow {P} transition (suc n) old place answers new =
+TurnsInRow transition zero old place trace new = (trace ≡ []) × (new ≡ old)
+TurnsInRow {P} transition (suc n) old place trace new =
     (mid : SlabView (QuotaPortsView P)) × (first : List (SystemCall P)) × (second : List (SystemCall P))
-    × (answers ≡ first ++ second) × TurnsInRow transition n old place first mid
+    × (trace ≡ first ++ second) × TurnsInRow transition n old place first mid
     × (0 < n → has_moved_in (slice_get mid.places place) ≡ true) × TakesTurn transition mid place second new
 
 -- The quantum: the most turns of a session in one visit. (own)
@@ -156,42 +156,42 @@ quantum = 8
 
 -- A session has one turn at least and a quantum at most, one after another while they make progress.
 pub record TakesTurns {P : Type 0} (transition : P → PortCall → P → Type 0) (old : SlabView (QuotaPortsView P)) (place turns : ℕ)
-    (answers : List (SystemCall P)) (new : SlabView (QuotaPortsView P)) : Type 0 where
-  pub made : TurnsInRow transition turns old place answers new
+    (trace : List (SystemCall P)) (new : SlabView (QuotaPortsView P)) : Type 0 where
+  pub made : TurnsInRow transition turns old place trace new
   pub some : 0 < turns
   pub few : turns ≤ quantum
   pub all : turns < quantum → has_moved_in (slice_get new.places place) ≡ false
 
 -- ---- the end of a session
 
-abbrev pub last_words : {P : Type 0} → Bool → List (SystemCall P)
-last_words true = Notifies TurnsSpent ∷ []
-last_words false = []
+abbrev pub spent_notice : {P : Type 0} → Bool → List (SystemCall P)
+spent_notice true = Notifies TurnsSpent ∷ []
+spent_notice false = []
 
 -- whether an event is the first one reported beyond the quota
 abbrev pub is_reported : Option Ending → Ending → Bool
 is_reported None ending = false
 is_reported (Some (Ended one)) (Ended side) = same_side one side
 is_reported (Some (Lost one)) (Lost side) = same_side one side
-is_reported (Some told) ending = false
+is_reported (Some synthetic) ending = false
 
 -- The cause of an ending: the event that ended the session within its quota or, if there was none, the spent turns.
 -- Beyond the quota an open session ends by the first end or failure reported. A session that was over is not read any
 -- more, and has an empty queue for a lost wire, so its own ending is not reported again.
 abbrev pub cause_by : Option Ending → Option Ending → Cause
-cause_by told None = Causes.TurnsSpent
-cause_by told (Some ending) = if is_reported told ending then Causes.TurnsSpent else Causes.Session ending
+cause_by synthetic None = Causes.TurnsSpent
+cause_by synthetic (Some ending) = if is_reported synthetic ending then Causes.TurnsSpent else Causes.Session ending
 
 abbrev pub end_by : Option Ending → Option Ending → Account → Option FaultField → SessionEnd
-end_by told ending account field = record { cause = cause_by told ending; account = account; fault_field = field }
+end_by synthetic ending account field = record { cause = cause_by synthetic ending; account = account; fault_field = field }
 
 -- the end of a session, with its account and the field that its fault is about
 abbrev pub end_of : {P : Type 0} → SessionView × QuotaPortsView P → SessionEnd
 end_of now = end_by now.1.first_synthetic_end (ending_in now.0.state.phase) now.0.account (fault_field_of now.0.state)
 
 -- spent turns are reported, if so, and then the ports are retired with the end of their session
-abbrev pub parting : {P : Type 0} → ℕ → QuotaPortsView P → SessionEnd → List (SystemCall P)
-parting place meter end = last_words (is_none meter.turns_left) ++ Retires place meter.ports end ∷ []
+abbrev pub retirement : {P : Type 0} → ℕ → QuotaPortsView P → SessionEnd → List (SystemCall P)
+retirement place meter end = spent_notice (is_none meter.turns_left) ++ Retires place meter.ports end ∷ []
 
 -- ---- a visit
 
@@ -199,14 +199,14 @@ parting place meter end = last_words (is_none meter.turns_left) ++ Retires place
 -- and the system has it rest; otherwise its place joins the end of the queue.
 abbrev pub LeavesVisit : {P : Type 0} → Bool → SessionView × QuotaPortsView P → ServiceView P → ℕ → List (SystemCall P) →
     ServiceView P → Type 0
-LeavesVisit true now old place answers new = (answers ≡ parting place now.1 (end_of now)) × (new ≡ with_free_place old place)
-LeavesVisit false now old place answers new =
-    (rests : Bool) × RestsBy now.1.made_progress place now.1.ports answers rests
+LeavesVisit true now old place trace new = (trace ≡ retirement place now.1 (end_of now)) × (new ≡ with_free_place old place)
+LeavesVisit false now old place trace new =
+    (rests : Bool) × RestsBy now.1.made_progress place now.1.ports trace rests
     × (new ≡ (if rests then old else queued_again old place))
 
 -- the session at this place has this many turns, and leaves the visit as they left it
 pub record TurnsAndLeaves {P : Type 0} (transition : P → PortCall → P → Type 0) (old : ServiceView P) (place turns : ℕ)
-    (answers : List (SystemCall P)) (new : ServiceView P) : Type 0 where
+    (trace : List (SystemCall P)) (new : ServiceView P) : Type 0 where
   pub now : SessionView × QuotaPortsView P
   pub turned : SlabView (QuotaPortsView P)
   pub turning : List (SystemCall P)
@@ -214,29 +214,29 @@ pub record TurnsAndLeaves {P : Type 0} (transition : P → PortCall → P → Ty
   pub takes : TakesTurns transition old.slab place turns turning turned
   pub there : IsAt turned place (Held now)
   pub leaves : LeavesVisit (is_closed now.0) now (record old { slab = turned }) place leaving new
-  pub asked : answers ≡ turning ++ leaving
+  pub asked : trace ≡ turning ++ leaving
 
 -- a completed connect turns into a session in its opening state, which has turns; a failed one is reported, and its place
 -- is free; a pending one goes on
-abbrev pub MeetsBy : {P : Type 0} → (P → PortCall → P → Type 0) → Connect P → ServiceView P → ℕ → ℕ → List (SystemCall P) →
+abbrev pub JoinsBy : {P : Type 0} → (P → PortCall → P → Type 0) → Connect P → ServiceView P → ℕ → ℕ → List (SystemCall P) →
     ServiceView P → Type 0
-MeetsBy {P} transition (Ready ports) old place turns told new =
+JoinsBy {P} transition (Ready ports) old place turns joining new =
     (opened : SlabView (QuotaPortsView P)) × OpensAt old.slab place (fresh ports old.counters.turns) opened
-    × TurnsAndLeaves transition (record old { slab = opened }) place turns told new
-MeetsBy transition Failed old place turns told new =
-    (turns ≡ 1) × (told ≡ Notifies CannotReach ∷ []) × (new ≡ with_free_place old place)
-MeetsBy transition Pending old place turns told new = (turns ≡ 1) × (told ≡ []) × (new ≡ old)
+    × TurnsAndLeaves transition (record old { slab = opened }) place turns joining new
+JoinsBy transition Failed old place turns joining new =
+    (turns ≡ 1) × (joining ≡ Notifies CannotReach ∷ []) × (new ≡ with_free_place old place)
+JoinsBy transition Pending old place turns joining new = (turns ≡ 1) × (joining ≡ []) × (new ≡ old)
 
 -- A visit of a place, by what is there. A visit without a turn counts as one, so that a round ends.
 abbrev pub VisitsBy : {P : Type 0} → (P → PortCall → P → Type 0) → Option (SlabPlace (SessionView × QuotaPortsView P)) → ServiceView P → ℕ →
     ℕ → List (SystemCall P) → ServiceView P → Type 0
-VisitsBy transition None old place turns answers new = (turns ≡ 1) × (answers ≡ []) × (new ≡ old)
-VisitsBy transition (Some Free) old place turns answers new = (turns ≡ 1) × (answers ≡ []) × (new ≡ old)
-VisitsBy {P} transition (Some Kept) old place turns answers new =
-    (connect : Connect P) × (told : List (SystemCall P)) × (answers ≡ Connects place connect ∷ told)
-    × MeetsBy transition connect old place turns told new
-VisitsBy transition (Some (Held held)) old place turns answers new =
-    TurnsAndLeaves transition old place turns answers new
+VisitsBy transition None old place turns trace new = (turns ≡ 1) × (trace ≡ []) × (new ≡ old)
+VisitsBy transition (Some Free) old place turns trace new = (turns ≡ 1) × (trace ≡ []) × (new ≡ old)
+VisitsBy {P} transition (Some Kept) old place turns trace new =
+    (connect : Connect P) × (joining : List (SystemCall P)) × (trace ≡ Connects place connect ∷ joining)
+    × JoinsBy transition connect old place turns joining new
+VisitsBy transition (Some (Held item)) old place turns trace new =
+    TurnsAndLeaves transition old place turns trace new
 
 abbrev pub VisitsPlace : {P : Type 0} → (P → PortCall → P → Type 0) → ServiceView P → ℕ → ℕ → List (SystemCall P) →
     ServiceView P → Type 0
@@ -259,27 +259,27 @@ Chooses turns = TakesNext (has_room (turns + quantum))
 
 -- the next place of the queue leaves it and is visited
 pub record VisitsNext {P : Type 0} (transition : P → PortCall → P → Type 0) (before : ℕ) (old : ServiceView P) (place turns : ℕ)
-    (answers : List (SystemCall P)) (new : ServiceView P) : Type 0 where
+    (trace : List (SystemCall P)) (new : ServiceView P) : Type 0 where
   pub ready : ReadyView
   pub room : has_room before ≡ true
   pub chooses : Chooses before old.ready place ready
-  pub visits : VisitsPlace transition (record old { ready = ready }) place turns answers new
+  pub visits : VisitsPlace transition (record old { ready = ready }) place turns trace new
 
 -- these places were visited one after another, the last one first in the list, with this many turns in all
 abbrev pub Visits : {P : Type 0} → (P → PortCall → P → Type 0) → List ℕ → ℕ → ServiceView P → List (SystemCall P) →
     ServiceView P → Type 0
-Visits transition [] turns old answers new = (turns ≡ 0) × (answers ≡ []) × (new ≡ old)
-Visits {P} transition (place ∷ earlier) turns old answers new =
+Visits transition [] turns old trace new = (turns ≡ 0) × (trace ≡ []) × (new ≡ old)
+Visits {P} transition (place ∷ earlier) turns old trace new =
     (mid : ServiceView P) × (before : ℕ) × (more : ℕ) × (first : List (SystemCall P)) × (second : List (SystemCall P))
-    × (turns ≡ before + more) × (answers ≡ first ++ second) × Visits transition earlier before old first mid
+    × (turns ≡ before + more) × (trace ≡ first ++ second) × Visits transition earlier before old first mid
     × VisitsNext transition before mid place more second new
 
 -- places of the queue are visited, until none is left or the round had its turns
-pub record VisitsReady {P : Type 0} (transition : P → PortCall → P → Type 0) (old : ServiceView P) (answers : List (SystemCall P))
+pub record VisitsReady {P : Type 0} (transition : P → PortCall → P → Type 0) (old : ServiceView P) (trace : List (SystemCall P))
     (new : ServiceView P) : Type 0 where
   pub visited : List ℕ
   pub turns : ℕ
-  pub takes : Visits transition visited turns old answers new
+  pub takes : Visits transition visited turns old trace new
   pub ends : has_room turns ≡ true → queued_places new.ready ≡ []
 
 -- ---- a bot is accepted
@@ -293,28 +293,28 @@ accepted_at run place = record {
 }
 
 -- the system is asked once for a bot at a free place
-pub record AsksForBot {P : Type 0} (old : ServiceView P) (answers : List (SystemCall P)) (new : ServiceView P) : Type 0 where
+pub record AsksForBot {P : Type 0} (old : ServiceView P) (trace : List (SystemCall P)) (new : ServiceView P) : Type 0 where
   pub place : ℕ
   pub came : Bool
   pub due : have_all_come old.counters ≡ false
   pub free : IsAt old.slab place Free
-  pub asked : answers ≡ Accepts place came ∷ []
+  pub asked : trace ≡ Accepts place came ∷ []
   pub then_kept : new ≡ (if came then accepted_at old place else old)
 
 -- the system is not asked: all bots came, or no place is free
 abbrev pub AsksForNone : {P : Type 0} → ServiceView P → List (SystemCall P) → ServiceView P → Type 0
-AsksForNone old answers new =
-    ((have_all_come old.counters ≡ true) ⊎ IsNoneFree old.slab.places) × (answers ≡ []) × (new ≡ old)
+AsksForNone old trace new =
+    ((have_all_come old.counters ≡ true) ⊎ IsNoneFree old.slab.places) × (trace ≡ []) × (new ≡ old)
 
 abbrev pub Admits : {P : Type 0} → ServiceView P → List (SystemCall P) → ServiceView P → Type 0
-Admits old answers new = AsksForBot old answers new ⊎ AsksForNone old answers new
+Admits old trace new = AsksForBot old trace new ⊎ AsksForNone old trace new
 
 -- ---- a round
 
 -- A poll wakes places and returns orders, by which the status of each session may be shown, and no bot may be accepted any
 -- more. Then places of the queue are visited, and at most one bot is accepted.
 pub record Round {P : Type 0} (transition : P → PortCall → P → Type 0) (old : ServiceView P)
-    (answers : List (SystemCall P)) (new : ServiceView P) : Type 0 where
+    (trace : List (SystemCall P)) (new : ServiceView P) : Type 0 where
   pub woken : List ℕ
   pub orders : Orders
   pub visiting : List (SystemCall P)
@@ -322,17 +322,17 @@ pub record Round {P : Type 0} (transition : P → PortCall → P → Type 0) (ol
   pub mid : ServiceView P
   pub visits : VisitsReady transition (polled woken orders old) visiting mid
   pub admits : Admits mid admission new
-  pub asked : answers ≡ opening woken orders old ++ visiting ++ admission
+  pub asked : trace ≡ opening woken orders old ++ visiting ++ admission
 
 -- ---- a run
 
 -- n rounds, each of a run that is not done
 abbrev pub Rounds : {P : Type 0} → (P → PortCall → P → Type 0) → ℕ → ServiceView P → List (SystemCall P) →
     ServiceView P → Type 0
-Rounds transition zero old answers new = (answers ≡ []) × (new ≡ old)
-Rounds {P} transition (suc n) old answers new =
+Rounds transition zero old trace new = (trace ≡ []) × (new ≡ old)
+Rounds {P} transition (suc n) old trace new =
     (mid : ServiceView P) × (first : List (SystemCall P)) × (second : List (SystemCall P))
-    × (answers ≡ first ++ second) × Rounds transition n old first mid × (is_done mid ≡ false)
+    × (trace ≡ first ++ second) × Rounds transition n old first mid × (is_done mid ≡ false)
     × Round transition mid second new
 
 -- a run with no bot yet
@@ -348,25 +348,25 @@ initial_service settings = record {
 
 -- rounds from the opening, until all bots were served
 abbrev pub Serves : {P : Type 0} → (P → PortCall → P → Type 0) → Settings → List (SystemCall P) → Type 0
-Serves {P} transition settings answers =
-    (n : ℕ) × (end : ServiceView P) × Rounds transition n (initial_service settings) answers end × (is_done end ≡ true)
+Serves {P} transition settings trace =
+    (n : ℕ) × (end : ServiceView P) × Rounds transition n (initial_service settings) trace end × (is_done end ≡ true)
 
 -- ---- a run that is broken off
 
 -- The connect of the bot at a place completed, but its session was refused its memory. The ports are dropped, and the
 -- place stays kept. `Refuses` is the allocator's relation of that name.
-pub record IsRefusedAt {P : Type 0} (Refuses : ℕ → Type 0) (old : ServiceView P) (place : ℕ) (answers : List (SystemCall P))
+pub record IsRefusedAt {P : Type 0} (Refuses : ℕ → Type 0) (old : ServiceView P) (place : ℕ) (trace : List (SystemCall P))
     (new : ServiceView P) : Type 0 where
   pub ports : P
   pub pending : IsAt old.slab place Kept
-  pub asked : answers ≡ Connects place (Ready ports) ∷ []
+  pub asked : trace ≡ Connects place (Ready ports) ∷ []
   -- the memory of a body of the longest length
   pub refused : Refuses old.slab.limits.cap
   pub same : new ≡ old
 
 -- places of the queue are visited, until a new session is refused its memory
 pub record VisitsUntilRefused {P : Type 0} (Refuses : ℕ → Type 0) (transition : P → PortCall → P → Type 0) (old : ServiceView P)
-    (answers : List (SystemCall P)) (new : ServiceView P) : Type 0 where
+    (trace : List (SystemCall P)) (new : ServiceView P) : Type 0 where
   pub visited : List ℕ
   pub turns : ℕ
   pub before : List (SystemCall P)
@@ -378,20 +378,20 @@ pub record VisitsUntilRefused {P : Type 0} (Refuses : ℕ → Type 0) (transitio
   pub room : has_room turns ≡ true
   pub chooses : Chooses turns mid.ready place ready
   pub refuses : IsRefusedAt Refuses (record mid { ready = ready }) place last new
-  pub asked : answers ≡ before ++ last
+  pub asked : trace ≡ before ++ last
 
 -- a round that ends with the visit whose session was refused its memory; it began as any round
 pub record BreaksOff {P : Type 0} (Refuses : ℕ → Type 0) (transition : P → PortCall → P → Type 0) (old : ServiceView P)
-    (answers : List (SystemCall P)) (new : ServiceView P) : Type 0 where
+    (trace : List (SystemCall P)) (new : ServiceView P) : Type 0 where
   pub woken : List ℕ
   pub orders : Orders
   pub visiting : List (SystemCall P)
   pub visits : VisitsUntilRefused Refuses transition (polled woken orders old) visiting new
-  pub asked : answers ≡ opening woken orders old ++ visiting
+  pub asked : trace ≡ opening woken orders old ++ visiting
 
 -- rounds from the opening, and a broken-off round of a run that is not done
 pub record RunsOut {P : Type 0} (Refuses : ℕ → Type 0) (transition : P → PortCall → P → Type 0) (settings : Settings)
-    (answers : List (SystemCall P)) : Type 0 where
+    (trace : List (SystemCall P)) : Type 0 where
   pub n : ℕ
   pub before : List (SystemCall P)
   pub last : List (SystemCall P)
@@ -400,24 +400,24 @@ pub record RunsOut {P : Type 0} (Refuses : ℕ → Type 0) (transition : P → P
   pub rounds : Rounds transition n (initial_service settings) before mid
   pub going_on : is_done mid ≡ false
   pub breaks : BreaksOff Refuses transition mid last end
-  pub asked : answers ≡ before ++ last
+  pub asked : trace ≡ before ++ last
 
 -- all rounds from the opening that a run may make
 pub record RunsLong {P : Type 0} (transition : P → PortCall → P → Type 0) (settings : Settings)
-    (answers : List (SystemCall P)) : Type 0 where
+    (trace : List (SystemCall P)) : Type 0 where
   pub n : ℕ
   pub end : ServiceView P
   pub all : n + 1 ≡ 18446744073709551616
-  pub rounds : Rounds transition n (initial_service settings) answers end
+  pub rounds : Rounds transition n (initial_service settings) trace end
 
 -- The trace of a run that ends with this fault, before all its bots were served. `Memory` has two causes, each a
 -- refusal of the allocator, by its relation `Refuses`. Either the places were refused, without a system call; or a body
 -- was refused, in a round that is broken off. `RoundsSpent` needs all rounds to be made.
 abbrev pub GivesUp : {P : Type 0} → (ℕ → Type 0) → (P → PortCall → P → Type 0) → Settings → ServeFault →
     List (SystemCall P) → Type 0
-GivesUp Refuses transition settings Faults.Memory answers =
-    ((answers ≡ []) × Refuses settings.max_sessions) ⊎ RunsOut Refuses transition settings answers
-GivesUp Refuses transition settings Faults.RoundsSpent answers = RunsLong transition settings answers
+GivesUp Refuses transition settings Faults.Memory trace =
+    ((trace ≡ []) × Refuses settings.max_sessions) ⊎ RunsOut Refuses transition settings trace
+GivesUp Refuses transition settings Faults.RoundsSpent trace = RunsLong transition settings trace
 
 -- ---- refusals
 

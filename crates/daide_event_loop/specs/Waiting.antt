@@ -73,8 +73,8 @@ abbrev pub IsAtRest : {P : Type 0} → (P → PortCall → P → Type 0) → Lis
     SlabPlace (SessionView × QuotaPortsView P) → Type 0
 IsAtRest transition calls place Free = Unit {0}
 IsAtRest transition calls place Kept = last_about place None calls ≡ Some (Connects place Pending)
-IsAtRest transition calls place (Held held) = IsIdleSession transition held
-    × (last_about place None calls ≡ Some (Rests place held.1.ports true))
+IsAtRest transition calls place (Held item) = IsIdleSession transition item
+    × (last_about place None calls ≡ Some (Rests place item.1.ports true))
 
 -- The invariant of a run: after these calls, each place that is used and not in the queue is at rest.
 abbrev pub RestsUnlessQueued : {P : Type 0} → (P → PortCall → P → Type 0) → List (SystemCall P) → ServiceView P → Type 0

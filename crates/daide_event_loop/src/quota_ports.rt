@@ -109,8 +109,8 @@ impl<P: Ports> QuotaPorts<P> {
     /// Has the session rest, if its last turn made no progress: returns true if nothing may be done at once for it either.
     #[inline(always)]
     pub fn rests<S: System<P>>(&self, place: usize, system: &mut S) -> bool
-        ensures { (answers : List (SystemCall P)) × TransitsBy S.transition system.old answers system.new
-            × RestsBy self.now.made_progress place self.now.ports answers result }
+        ensures { (trace : List (SystemCall P)) × TransitsBy S.transition system.old trace system.new
+            × RestsBy self.now.made_progress place self.now.ports trace result }
     {
         !self.made_progress && system.rest(place, &self.ports)
     }

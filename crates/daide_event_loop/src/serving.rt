@@ -8,7 +8,7 @@
 ghost use Rattle.std.specs.Prelude.{◌≡◌, true, false, List, OnOk, OnErr, IfOk, IfErr, Some};
 ghost use Rattle.daide_io.specs.System.{SystemCall, TransitsBy};
 ghost use Rattle.daide_driver.specs.Slab.{is_at, is_held};
-ghost use Rattle.daide_event_loop.specs.Serving.{shows_where, is_reported, cause_by, end_by, parting, TakesTurn, TakesTurns};
+ghost use Rattle.daide_event_loop.specs.Serving.{shows_where, is_reported, cause_by, end_by, retirement, TakesTurn, TakesTurns};
 ghost use Rattle.daide_event_loop.specs.Serving.{TurnsAndLeaves, VisitsPlace, VisitsReady, Admits, Round, is_done, initial_service};
 ghost use Rattle.daide_event_loop.specs.Serving.{IsRefusedAt, VisitsUntilRefused, BreaksOff, GivesUp, IsServeCause};
 ghost use Rattle.daide_event_loop.specs.Served.{IsWholeRun};
@@ -93,10 +93,10 @@ fn show_sessions<P: Ports, A: Allocator + Copy, S: System<P>>(
 }
 
 /// Returns true if an event is the first one reported beyond the quota.
-fn is_reported(told: Option<Ending>, ending: Ending) -> bool
-    ensures { result ≡ is_reported told ending }
+fn is_reported(synthetic: Option<Ending>, ending: Ending) -> bool
+    ensures { result ≡ is_reported synthetic ending }
 {
-    match (told, ending) {
+    match (synthetic, ending) {
         (Some(Ending::Ended(one)), Ending::Ended(side)) => one == side,
         (Some(Ending::Lost(one)), Ending::Lost(side)) => one == side,
         _ => false,
@@ -104,10 +104,10 @@ fn is_reported(told: Option<Ending>, ending: Ending) -> bool
 }
 
 /// Returns the cause of an ending: spent turns if it is the first one reported beyond the quota, otherwise the event.
-fn cause_of(told: Option<Ending>, ending: Ending) -> Cause
-    ensures { result ≡ cause_by told (Some ending) }
+fn cause_of(synthetic: Option<Ending>, ending: Ending) -> Cause
+    ensures { result ≡ cause_by synthetic (Some ending) }
 {
-    if is_reported(told, ending) {
+    if is_reported(synthetic, ending) {
         Cause::TurnsSpent
     } else {
         Cause::Session(ending)
@@ -116,8 +116,12 @@ fn cause_of(told: Option<Ending>, ending: Ending) -> Cause
 
 /// Retires the ports of the session that was at a place, with its end. Before that, reports spent turns if the quota is
 /// exceeded.
-fn part_with<P: Ports, S: System<P>>(place: usize, removed: Removed<QuotaPorts<P>>, system: &mut S)
-    ensures { TransitsBy S.transition system.old (parting place removed.ports
+fn retire_session<P: Ports, S: System<P>>(
+    place: usize,
+    removed: Removed<QuotaPorts<P>>,
+    system: &mut S,
+)
+    ensures { TransitsBy S.transition system.old (retirement place removed.ports
         (end_by removed.ports.first_synthetic_end (Some removed.ending) removed.account removed.fault_field)) system.new }
 {
     let Removed {
@@ -127,7 +131,7 @@ fn part_with<P: Ports, S: System<P>>(place: usize, removed: Removed<QuotaPorts<P
         fault_field,
     } = removed;
     if ports.is_spent() {
-        system.tell(Notice::TurnsSpent);
+        system.log(Notice::TurnsSpent);
     }
     let end = SessionEnd {
         cause: cause_of(ports.first_synthetic_end(), ending),
@@ -145,8 +149,8 @@ fn take_turn<P: Ports, A: Allocator + Copy, S: System<P>>(
     system: &mut S,
 )
     requires { is_at is_held slab.old.places place ≡ true }
-    ensures { (answers : List (SystemCall P)) × TransitsBy S.transition system.old answers system.new
-        × TakesTurn P.transition slab.old place answers slab.new }
+    ensures { (trace : List (SystemCall P)) × TransitsBy S.transition system.old trace system.new
+        × TakesTurn P.transition slab.old place trace slab.new }
 {
     slab.ports_mut(place).begin_turn(place, system);
     slab.turn(place);
@@ -161,8 +165,8 @@ fn take_turns<P: Ports, A: Allocator + Copy, S: System<P>>(
     system: &mut S,
 ) -> usize
     requires { is_at is_held slab.old.places place ≡ true }
-    ensures { (answers : List (SystemCall P)) × TransitsBy S.transition system.old answers system.new
-        × TakesTurns P.transition slab.old place result answers slab.new }
+    ensures { (trace : List (SystemCall P)) × TransitsBy S.transition system.old trace system.new
+        × TakesTurns P.transition slab.old place result trace slab.new }
 {
     for turns in 0..QUANTUM {
         take_turn(slab, place, system);
@@ -202,8 +206,8 @@ impl<P: Ports, A: Memory + Copy> Service<P, A> {
     /// Accepts a bot if there is a place for it and the limit is not reached. Its place is visited, since its connect may
     /// have failed already.
     fn admit<S: System<P>>(&mut self, system: &mut S)
-        ensures { (answers : List (SystemCall P)) × TransitsBy S.transition system.old answers system.new
-            × Admits self.old answers self.new }
+        ensures { (trace : List (SystemCall P)) × TransitsBy S.transition system.old trace system.new
+            × Admits self.old trace self.new }
     {
         if self.counters.have_all_come() {
             return;
@@ -223,13 +227,13 @@ impl<P: Ports, A: Memory + Copy> Service<P, A> {
     #[inline(always)]
     fn give_turns<S: System<P>>(&mut self, place: usize, system: &mut S) -> usize
         requires { is_at is_held self.old.slab.places place ≡ true }
-        ensures { (answers : List (SystemCall P)) × TransitsBy S.transition system.old answers system.new
-            × TurnsAndLeaves P.transition self.old place result answers self.new }
+        ensures { (trace : List (SystemCall P)) × TransitsBy S.transition system.old trace system.new
+            × TurnsAndLeaves P.transition self.old place result trace self.new }
     {
         let turns = take_turns(&mut self.slab, place, system);
         if self.slab.session(place).is_closed() {
             let removed = self.slab.remove(place);
-            part_with(place, removed, system);
+            retire_session(place, removed, system);
         } else if !self.slab.ports(place).rests(place, system) {
             self.ready.put_back(place);
         }
@@ -242,15 +246,15 @@ impl<P: Ports, A: Memory + Copy> Service<P, A> {
     ///
     /// Fails with `Memory` if the allocator refused a body.
     #[inline(never)]
-    fn meet<S: System<P>>(&mut self, place: usize, system: &mut S) -> Result<usize, ServeFault>
+    fn join<S: System<P>>(&mut self, place: usize, system: &mut S) -> Result<usize, ServeFault>
         requires { is_at is_held self.old.slab.places place ≡ false }
-        ensures visits { IfOk result (λ turns. (answers : List (SystemCall P))
-            × TransitsBy S.transition system.old answers system.new
-            × VisitsPlace P.transition self.old place turns answers self.new) }
+        ensures visits { IfOk result (λ turns. (trace : List (SystemCall P))
+            × TransitsBy S.transition system.old trace system.new
+            × VisitsPlace P.transition self.old place turns trace self.new) }
         ensures fault { IfErr result (λ fault. fault ≡ ServeFault.Memory) }
-        ensures broken_off { OnErr result ((answers : List (SystemCall P))
-            × TransitsBy S.transition system.old answers system.new
-            × IsRefusedAt A.Refuses self.old place answers self.new) }
+        ensures broken_off { OnErr result ((trace : List (SystemCall P))
+            × TransitsBy S.transition system.old trace system.new
+            × IsRefusedAt A.Refuses self.old place trace self.new) }
     {
         // Something may be reported of a place after its session ended.
         if !self.slab.is_kept(place) {
@@ -260,7 +264,7 @@ impl<P: Ports, A: Memory + Copy> Service<P, A> {
             Connect::Pending => Ok(1),
             Connect::Failed => {
                 self.slab.give_up(place);
-                system.tell(Notice::CannotReach);
+                system.log(Notice::CannotReach);
                 Ok(1)
             }
             Connect::Ready(ports) => {
@@ -276,31 +280,31 @@ impl<P: Ports, A: Memory + Copy> Service<P, A> {
     /// Visits a place. Returns the number of turns of its session; one at least, so that a round ends.
     #[inline(always)]
     fn visit<S: System<P>>(&mut self, place: usize, system: &mut S) -> Result<usize, ServeFault>
-        ensures visits { IfOk result (λ turns. (answers : List (SystemCall P))
-            × TransitsBy S.transition system.old answers system.new
-            × VisitsPlace P.transition self.old place turns answers self.new) }
+        ensures visits { IfOk result (λ turns. (trace : List (SystemCall P))
+            × TransitsBy S.transition system.old trace system.new
+            × VisitsPlace P.transition self.old place turns trace self.new) }
         ensures fault { IfErr result (λ fault. fault ≡ ServeFault.Memory) }
-        ensures broken_off { OnErr result ((answers : List (SystemCall P))
-            × TransitsBy S.transition system.old answers system.new
-            × IsRefusedAt A.Refuses self.old place answers self.new) }
+        ensures broken_off { OnErr result ((trace : List (SystemCall P))
+            × TransitsBy S.transition system.old trace system.new
+            × IsRefusedAt A.Refuses self.old place trace self.new) }
     {
         if self.slab.has(place) {
             Ok(self.give_turns(place, system))
         } else {
-            self.meet(place, system)
+            self.join(place, system)
         }
     }
 
     /// Visits places of the queue until it is empty, or until another visit might exceed `ROUND` turns. Those that were at
     /// rest come first, but the last `LEFT_TO_MOVING` turns are for one of the others, if there is one.
     fn visit_ready<S: System<P>>(&mut self, system: &mut S) -> Result<(), ServeFault>
-        ensures visits { OnOk result ((answers : List (SystemCall P))
-            × TransitsBy S.transition system.old answers system.new
-            × VisitsReady P.transition self.old answers self.new) }
+        ensures visits { OnOk result ((trace : List (SystemCall P))
+            × TransitsBy S.transition system.old trace system.new
+            × VisitsReady P.transition self.old trace self.new) }
         ensures fault { IfErr result (λ fault. fault ≡ ServeFault.Memory) }
-        ensures broken_off { OnErr result ((answers : List (SystemCall P))
-            × TransitsBy S.transition system.old answers system.new
-            × VisitsUntilRefused A.Refuses P.transition self.old answers self.new) }
+        ensures broken_off { OnErr result ((trace : List (SystemCall P))
+            × TransitsBy S.transition system.old trace system.new
+            × VisitsUntilRefused A.Refuses P.transition self.old trace self.new) }
     {
         let mut turns = 0;
         while turns + QUANTUM <= ROUND {
@@ -323,7 +327,7 @@ impl<P: Ports, A: Memory + Copy> Service<P, A> {
     /// before, if there is one (`Chooses`). A session has up to 8 turns, one after another while they make progress
     /// (`TakesTurns`); the system begins each with the session's ports. Then it is retired if it is over and nothing waits.
     /// It rests if its last turn made no progress and the system has it rest, and otherwise joins the end of the queue
-    /// (`LeavesVisit`). The visit of a bot without a session asks for its connect (`MeetsBy`). A bot is accepted only if a place
+    /// (`LeavesVisit`). The visit of a bot without a session asks for its connect (`JoinsBy`). A bot is accepted only if a place
     /// is free and not all bots came (`Admits`).
     ///
     /// `refused`: its only fault is no memory for a session.
@@ -331,12 +335,12 @@ impl<P: Ports, A: Memory + Copy> Service<P, A> {
     /// `broken_off`: with this fault the round ends after the connect that succeeded. Its ports are dropped, and all
     /// else is as the visits before it left it (`BreaksOff`).
     pub fn round<S: System<P>>(&mut self, system: &mut S) -> Result<(), ServeFault>
-        ensures round { OnOk result ((answers : List (SystemCall P))
-            × TransitsBy S.transition system.old answers system.new × Round P.transition self.old answers self.new) }
+        ensures round { OnOk result ((trace : List (SystemCall P))
+            × TransitsBy S.transition system.old trace system.new × Round P.transition self.old trace self.new) }
         ensures refused { IfErr result (λ fault. fault ≡ ServeFault.Memory) }
-        ensures broken_off { OnErr result ((answers : List (SystemCall P))
-            × TransitsBy S.transition system.old answers system.new
-            × BreaksOff A.Refuses P.transition self.old answers self.new) }
+        ensures broken_off { OnErr result ((trace : List (SystemCall P))
+            × TransitsBy S.transition system.old trace system.new
+            × BreaksOff A.Refuses P.transition self.old trace self.new) }
     {
         let orders = system.poll(self.ready.is_empty(), &mut self.ready);
         self.counters.heed(orders);
@@ -377,11 +381,11 @@ pub fn serve<P: Ports, A: Memory + Copy, S: System<P>>(
     settings: &Settings,
     system: &mut S,
 ) -> Result<(), ServeFault>
-    ensures served { OnOk result ((answers : List (SystemCall P))
-        × TransitsBy S.transition system.old answers system.new × IsWholeRun P.transition settings.now answers) }
-    ensures given_up { IfErr result (λ fault. (answers : List (SystemCall P))
-        × TransitsBy S.transition system.old answers system.new
-        × GivesUp A.Refuses P.transition settings.now fault answers) }
+    ensures served { OnOk result ((trace : List (SystemCall P))
+        × TransitsBy S.transition system.old trace system.new × IsWholeRun P.transition settings.now trace) }
+    ensures given_up { IfErr result (λ fault. (trace : List (SystemCall P))
+        × TransitsBy S.transition system.old trace system.new
+        × GivesUp A.Refuses P.transition settings.now fault trace) }
     ensures refused { IfErr result (IsServeCause A.Refuses settings.now) }
 {
     let Ok(mut service) = Service::<P, A>::new(alloc, settings) else {

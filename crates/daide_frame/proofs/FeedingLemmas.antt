@@ -259,7 +259,7 @@ wrong_at limit header head w piece n e q none p l a =
       answer = ap step_of_events (sym items);
       items = items;
       whole = inl tt;
-      held = tt;
+      frame_bytes = tt;
       closed = λ _. body_left limit header (take n v) head e q
           ∙ ap (λ (o : Option ℕ). cond (is_some o) 0 (head.len - length (take n v))) (alien_in-end head v n a l).1;
     }
@@ -285,7 +285,7 @@ right_at limit header head w piece step e q good none p l a (inl h) =
       items = items ∙ sym (told_whole head v (omega (arith, length-append w piece)))
           ∙ ap (items_of_step (Bodied head)) (sym after);
       whole = inr (sym (append_assoc header w piece));
-      held = (read, rw after (good.right, h.0));
+      frame_bytes = (read, rw after (good.right, h.0));
       closed = λ _. body_left limit header v head e q
           ∙ ap (λ (o : Option ℕ). cond (is_some o) 0 (head.len - length v)) a ∙ omega (arith, h.0);
     })
@@ -299,7 +299,7 @@ right_at limit header head w piece step e q good none p l a (inr h) =
       answer = ap step_of_events (sym items);
       items = items;
       whole = inr (sym (append_assoc header w piece));
-      held = tt;
+      frame_bytes = tt;
       closed = λ none. absurd none;
     })
 

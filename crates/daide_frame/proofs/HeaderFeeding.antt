@@ -31,7 +31,7 @@ short_fed limit old [] new e h = record {
   answer = refl;
   items = refl;
   whole = inr e;
-  held = tt;
+  frame_bytes = tt;
   closed = λ k. absurd k;
 }
 short_fed limit old (x ∷ piece) new e h =
@@ -42,7 +42,7 @@ short_fed limit old (x ∷ piece) new e h =
       answer = ap step_of_events (sym none);
       items = none;
       whole = inr e;
-      held = tt;
+      frame_bytes = tt;
       closed = λ k. absurd k;
     }
 
@@ -52,9 +52,9 @@ pub fourth_fed : (limit : ℕ) (old piece new : List ℕ) (step : Step) → leng
     last_items limit new ≡ items_of_step step (drop 4 new) →
     HoldsFrame step (head_in limit new) (drop 4 new) → (IsEnd step → missing limit new ≡ 0) →
     IsFed limit old piece step new
-fourth_fed limit old [] new step less e h answer items held closed =
+fourth_fed limit old [] new step less e h answer items frame_bytes closed =
     absurd (omega (arith, ap length e, length-append old []))
-fourth_fed limit old (x ∷ piece) new step less e h answer items held closed =
+fourth_fed limit old (x ∷ piece) new step less e h answer items frame_bytes closed =
     let f = fed_header limit old x piece (omega (arith, h, ap length e, length-append old (x ∷ piece))) in
     let same = f.1 ∙ ap (last_items limit) (sym e) in
     record {
@@ -62,6 +62,6 @@ fourth_fed limit old (x ∷ piece) new step less e h answer items held closed =
       answer = sym answer ∙ ap step_of_events (sym same);
       items = same ∙ items;
       whole = inr e;
-      held = held;
+      frame_bytes = frame_bytes;
       closed = closed;
     }

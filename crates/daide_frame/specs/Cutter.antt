@@ -29,7 +29,7 @@ pub record IsFed (cap : ℕ) (old piece : List ℕ) (step : Step) (new : List �
   pub answer : step ≡ step_of_events (fed_items cap old piece)
   pub items : fed_items cap old piece ≡ items_of_step step (drop 4 new)
   pub whole : IsFault step ⊎ (new ≡ old ++ piece)
-  pub held : HoldsFrame step (head_in cap new) (drop 4 new)
+  pub frame_bytes : HoldsFrame step (head_in cap new) (drop 4 new)
   pub closed : IsEnd step → missing cap new ≡ 0
 
 -- none of n tokens of a body, from an index on, is alien

@@ -231,10 +231,10 @@ IsWholeBody head body = (has_right_length head.kind head.len ≡ true) × (lengt
 -- The header and the body that are held when a step is reported: the header that the step carries, without a body at
 -- `Headed`, and with its whole body at `Bodied`.
 abbrev pub HoldsFrame : Step → Option Head → List ℕ → Type 0
-HoldsFrame More held body = Unit {0}
-HoldsFrame (Headed head) held body = (held ≡ Some head) × (body ≡ [])
-HoldsFrame (Bodied head) held body = (held ≡ Some head) × IsWholeBody head body
-HoldsFrame (Fault code) held body = Unit {0}
+HoldsFrame More header body = Unit {0}
+HoldsFrame (Headed head) header body = (header ≡ Some head) × (body ≡ [])
+HoldsFrame (Bodied head) header body = (header ≡ Some head) × IsWholeBody head body
+HoldsFrame (Fault code) header body = Unit {0}
 
 -- the abstract value of a cutter: the cap, and the bytes of the frame so far
 pub record Cut : Type 0 where

@@ -276,7 +276,7 @@ impl<A: Allocator> Cutter<A> {
         ensures whole { IsFault result ⊎ (self.new.bytes ≡ self.old.bytes ++ piece.now) }
 
         // The step carries the header that is held. At `Bodied` the body has exactly the length that it announces.
-        ensures held { HoldsFrame result (head_in self.new.cap self.new.bytes) (drop 4 self.new.bytes) }
+        ensures frame_bytes { HoldsFrame result (head_in self.new.cap self.new.bytes) (drop 4 self.new.bytes) }
         ensures closed { IsEnd result → missing self.new.cap self.new.bytes ≡ 0 }
     {
         if self.have < HEADER {

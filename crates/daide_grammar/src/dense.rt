@@ -142,13 +142,13 @@ impl Predict for Dense {
     }
 
     #[inline(always)]
-    fn predict_token(&mut self, sym: TopSymbol, _token: Token, known: Column) -> Move {
+    fn predict_token(&mut self, sym: TopSymbol, _token: Token, column: Column) -> Move {
         self.asked = self.asked.wrapping_add(1);
-        move_of(sym, known)
+        move_of(sym, column)
     }
 
-    fn predict_word(&mut self, sym: Symbol, _token: Token, known: Column) -> Move {
-        self.predict(sym, known)
+    fn predict_word(&mut self, sym: Symbol, _token: Token, column: Column) -> Move {
+        self.predict(sym, column)
     }
 
     fn may_end(&mut self, sym: Symbol) -> bool {

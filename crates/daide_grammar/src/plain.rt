@@ -87,12 +87,12 @@ impl Predict for Plain {
         move_of(sym, class)
     }
 
-    fn predict_token(&mut self, sym: TopSymbol, _token: Token, known: Column) -> Move {
-        self.predict(sym.symbol(), known)
+    fn predict_token(&mut self, sym: TopSymbol, _token: Token, column: Column) -> Move {
+        self.predict(sym.symbol(), column)
     }
 
-    fn predict_word(&mut self, sym: Symbol, _token: Token, known: Column) -> Move {
-        self.predict(sym, known)
+    fn predict_word(&mut self, sym: Symbol, _token: Token, column: Column) -> Move {
+        self.predict(sym, column)
     }
 
     fn may_end(&mut self, sym: Symbol) -> bool {

@@ -224,8 +224,8 @@ pub trait Predict {
 
     /// Returns the entry for a symbol and a token, by the token's class in the protocol's own table. Unless it is a
     /// `Stop`, it is the entry for the token. After a `Stop`, `predict_word` returns that entry.
-    fn predict_token(&mut self, sym: TopSymbol, token: Token, known: Column) -> Move
-        requires { known ≡ known_class token }
+    fn predict_token(&mut self, sym: TopSymbol, token: Token, column: Column) -> Move
+        requires { column ≡ known_class token }
         ensures answer { is_stop result ≡ false →
             result ≡ moves (words self.old) sym (class_of (words self.old) token) }
         ensures words_stay { words self.new ≡ words self.old }
@@ -233,8 +233,8 @@ pub trait Predict {
 
     /// Returns the entry for a symbol and a token that may be an operator's word. It is called after `predict_token`
     /// stopped, and counts as a further look-up.
-    fn predict_word(&mut self, sym: Symbol, token: Token, known: Column) -> Move
-        requires { known ≡ known_class token }
+    fn predict_word(&mut self, sym: Symbol, token: Token, column: Column) -> Move
+        requires { column ≡ known_class token }
         ensures answer { result ≡ moves (words self.old) sym (class_of (words self.old) token) }
         ensures words_stay { words self.new ≡ words self.old }
         ensures counts_each_answer { asked self.new ≡ (asked self.old + 1) % 2 ^ 64 };

@@ -73,13 +73,13 @@ takes side (Offered to bytes put) = if same_side to side then put_len put else 0
 
 abbrev pub sum_of : (PortCall → ℕ) → List PortCall → ℕ
 sum_of count [] = 0
-sum_of count (answer ∷ answers) = count answer + sum_of count answers
+sum_of count (call ∷ trace) = count call + sum_of count trace
 
 -- the counts of all calls of a trace
 abbrev pub bytes_of : List PortCall → ByteCounts
-bytes_of answers = record {
-  from_bot = sum_of (delivers Bot) answers % 2 ^ 64;
-  from_server = sum_of (delivers Server) answers % 2 ^ 64;
-  to_bot = sum_of (takes Bot) answers % 2 ^ 64;
-  to_server = sum_of (takes Server) answers % 2 ^ 64;
+bytes_of trace = record {
+  from_bot = sum_of (delivers Bot) trace % 2 ^ 64;
+  from_server = sum_of (delivers Server) trace % 2 ^ 64;
+  to_bot = sum_of (takes Bot) trace % 2 ^ 64;
+  to_server = sum_of (takes Server) trace % 2 ^ 64;
 }

@@ -13,7 +13,7 @@ use Rattle.daide_io.specs.declared.network.ConnectStatus.{ConnectStatus}
 -- begins; a connection that is followed under a key; and the state of a connect.
 pub data NetworkCall (C : Type 0) : Type 0 where
   ReadsClock : (reading : Option Instant) → NetworkCall C
-  Polls : (timeout : Option Duration) → (news : List SocketEvent) → NetworkCall C
+  Polls : (timeout : Option Duration) → (socket_events : List SocketEvent) → NetworkCall C
   Listens : (key : ℕ) → (is_followed : Bool) → NetworkCall C
   AcceptsConnection : (accepted : Result (C × SocketAddr) Error) → NetworkCall C
   StopsListening : NetworkCall C

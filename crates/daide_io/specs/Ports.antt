@@ -49,13 +49,13 @@ IsPutWithin Failed len = Unit {0}
 -- result.
 abbrev pub EvolvesBy : {P : Type 0} → (P → PortCall → P → Type 0) → P → List PortCall → P → Type 0
 EvolvesBy transition old [] new = new ≡ old
-EvolvesBy {P} transition old (answer ∷ answers) new =
-    (mid : P) × transition old answer mid × EvolvesBy transition mid answers new
+EvolvesBy {P} transition old (call ∷ trace) new =
+    (mid : P) × transition old call mid × EvolvesBy transition mid trace new
 
 -- If there is a record afterwards, there was one before, and these calls were appended to it. Without a record
 -- afterwards it holds.
 abbrev pub AppendsTo : {A : Type 0} → Option (List A) → List A → Option (List A) → Type 0
-AppendsTo {A} old answers new = IfSome new (λ after. (before : List A) × (old ≡ Some before) × (after ≡ before ++ answers))
+AppendsTo {A} old trace new = IfSome new (λ after. (before : List A) × (old ≡ Some before) × (after ≡ before ++ trace))
 
 -- ---- the events
 
@@ -74,7 +74,7 @@ event_of (Offered side bytes Failed) = Loses side ∷ []
 -- the events of a trace
 abbrev pub events_of : List PortCall → List Event
 events_of [] = []
-events_of (answer ∷ answers) = event_of answer ++ events_of answers
+events_of (call ∷ trace) = event_of call ++ events_of trace
 
 -- ---- the wires
 
@@ -88,7 +88,7 @@ took side (Offered to bytes Failed) = []
 -- the bytes that the wire to a side took, in order
 abbrev pub taken : Side → List PortCall → List ℕ
 taken side [] = []
-taken side (answer ∷ answers) = took side answer ++ taken side answers
+taken side (call ∷ trace) = took side call ++ taken side trace
 
 abbrev pub put_fails : Side → PortCall → Bool
 put_fails side TurnBegins = false
@@ -100,4 +100,4 @@ put_fails side (Offered to bytes Failed) = same_side to side
 -- whether a put to the wire to a side failed
 abbrev pub has_failed : Side → List PortCall → Bool
 has_failed side [] = false
-has_failed side (answer ∷ answers) = put_fails side answer || has_failed side answers
+has_failed side (call ∷ trace) = put_fails side call || has_failed side trace

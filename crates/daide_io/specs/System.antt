@@ -44,8 +44,8 @@ pub data SystemCall (P : Type 0) : Type 0 where
 -- The system went from old to new by these calls; `transition` is the effect of one call with its result.
 abbrev pub TransitsBy : {P S : Type 0} → (S → SystemCall P → S → Type 0) → S → List (SystemCall P) → S → Type 0
 TransitsBy transition old [] new = new ≡ old
-TransitsBy {S = S} transition old (answer ∷ answers) new =
-    (mid : S) × transition old answer mid × TransitsBy transition mid answers new
+TransitsBy {S = S} transition old (answer ∷ trace) new =
+    (mid : S) × transition old answer mid × TransitsBy transition mid trace new
 
 -- ---- what a trace says of one place
 

@@ -30,7 +30,7 @@ pub trait Duplex {
         ensures within { ReadsAtMost result buffer.new }
         ensures given { ReadConsumes (to_give self.old) (to_give self.new) result buffer.new }
         ensures apart { taken self.new ≡ taken self.old }
-        ensures told { AppendsTo (calls self.old) (Read (length buffer.old) (outcome_by result) ∷ []) (calls self.new) };
+        ensures appended { AppendsTo (calls self.old) (Read (length buffer.old) (outcome_by result) ∷ []) (calls self.new) };
 
     /// Writes a prefix of the bytes, and returns its length.
     ///
@@ -39,12 +39,12 @@ pub trait Duplex {
         ensures within { WritesAtMost result bytes.now }
         ensures taken { WriteAppends (taken self.old) (taken self.new) result bytes.now }
         ensures apart { to_give self.new ≡ to_give self.old }
-        ensures told { AppendsTo (calls self.old) (Written bytes.now (outcome_by result) ∷ []) (calls self.new) };
+        ensures appended { AppendsTo (calls self.old) (Written bytes.now (outcome_by result) ∷ []) (calls self.new) };
 
     /// Shuts down the writing direction, so that the peer reads the end of the stream. Has no effect if the peer is
     /// gone.
     fn end_writing(&mut self)
         ensures taken { taken self.new ≡ taken self.old }
         ensures apart { to_give self.new ≡ to_give self.old }
-        ensures told { AppendsTo (calls self.old) (WritingEnded ∷ []) (calls self.new) };
+        ensures appended { AppendsTo (calls self.old) (WritingEnded ∷ []) (calls self.new) };
 }

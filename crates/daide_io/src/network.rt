@@ -52,10 +52,10 @@ pub trait Network: Drop {
     fn now(&mut self) -> Option<Instant>
         ensures { transition self.old (ReadsClock result) self.new };
 
-    /// Waits until a socket that is followed is ready, at most for `timeout`; without one, for ever. Replaces `news` by
+    /// Waits until a socket that is followed is ready, at most for `timeout`; without one, for ever. Replaces `socket_events` by
     /// the reports, at most as many as it has room for. A poll that fails reports nothing.
-    fn poll(&mut self, timeout: Option<Duration>, news: &mut Vec<SocketEvent>)
-        ensures { transition self.old (Polls timeout news.new.items) self.new };
+    fn poll(&mut self, timeout: Option<Duration>, socket_events: &mut Vec<SocketEvent>)
+        ensures { transition self.old (Polls timeout socket_events.new.items) self.new };
 
     /// Follows the listener under this key. Returns whether the system accepts that.
     fn listen(&mut self, key: usize) -> bool

@@ -149,6 +149,6 @@ pub trait System<P: Ports> {
         ensures { transition self.old (Retires place ports end) self.new };
 
     /// Logs a line for the operator. A failure to do so ends nothing.
-    fn tell(&mut self, notice: Notice)
+    fn log(&mut self, notice: Notice)
         ensures { transition self.old (Notifies notice) self.new };
 }

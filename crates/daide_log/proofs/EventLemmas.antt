@@ -79,12 +79,12 @@ at_last_line Last e = refl
 at_last_line End e = absurd (cc)
 
 -- any other line that was found has its line feed
-pub as_line : (all : Option (List ℕ)) (now new : Reader) (held rest line : List ℕ) (n : ℕ) (found : LineEnd) → is_end_of_log found ≡ false →
-    is_last_line found ≡ false → IsFound all now held n (Ok found) line new rest → IsFound all now held n (Ok Line) line new rest
-as_line all now new held rest line n (Held k) e l f = f
-as_line all now new held rest line n Line e l f = f
-as_line all now new held rest line n Last e l f = absurd (cc)
-as_line all now new held rest line n End e l f = absurd (cc)
+pub as_line : (all : Option (List ℕ)) (now new : Reader) (buffered rest line : List ℕ) (n : ℕ) (found : LineEnd) → is_end_of_log found ≡ false →
+    is_last_line found ≡ false → IsFound all now buffered n (Ok found) line new rest → IsFound all now buffered n (Ok Line) line new rest
+as_line all now new buffered rest line n (Held k) e l f = f
+as_line all now new buffered rest line n Line e l f = f
+as_line all now new buffered rest line n Last e l f = absurd (cc)
+as_line all now new buffered rest line n End e l f = absurd (cc)
 
 module _ {Answer : Type 0} (form : ReportForm Answer) where
   -- ---- one line
@@ -151,21 +151,21 @@ module _ {Answer : Type 0} (form : ReportForm Answer) where
   -- ---- between two lines
 
   -- a property that does not depend on earlier lines, and the progress of the log
-  pub record Plays (P : SessionView → Type 0) (knows : form.Context → Type 0) (start : Reader → Option (List ℕ) → Type 0) (now : Reader) (held : List ℕ) (number : ℕ) (version : Version)
+  pub record Plays (P : SessionView → Type 0) (knows : form.Context → Type 0) (start : Reader → Option (List ℕ) → Type 0) (now : Reader) (buffered : List ℕ) (number : ℕ) (version : Version)
       (sessions : List SessionView) (count : ℕ) (summary : Summary) (after : Option (List ℕ)) : Type 0 where
     pub ready : All P sessions
     pub size : length sessions ≡ count
     pub few : IsMoreBy (1024 * number) nothing_counted summary
     pub fits : number ≤ most_lines
     pub playing : (origin : Reader) (before : Option (List ℕ)) → start origin before →
-        IsPlaying form knows origin now held number version (states_of sessions) summary before after
+        IsPlaying form knows origin now buffered number version (states_of sessions) summary before after
 
   pub plays_first : (P : SessionView → Type 0) (knows : form.Context → Type 0) (words : List Word) →
-      IsWritableForm words form → (now : Reader) (held : List ℕ) (number : ℕ) (version : Version) (sessions : List SessionView)
+      IsWritableForm words form → (now : Reader) (buffered : List ℕ) (number : ℕ) (version : Version) (sessions : List SessionView)
       (summary : Summary) (a : Option (List ℕ)) → All P sessions → number ≤ most_lines → summary ≡ nothing_counted →
-      knows form.fresh → Plays P knows (StartsReport form now held number version (states_of sessions) a) now held number version sessions (length sessions) summary
+      knows form.fresh → Plays P knows (StartsReport form now buffered number version (states_of sessions) a) now buffered number version sessions (length sessions) summary
       a
-  plays_first P knows words lawful now held number version sessions summary a ready fits e known = record {
+  plays_first P knows words lawful now buffered number version sessions summary a ready fits e known = record {
     ready = ready;
     size = refl;
     few = subst (IsMoreBy (1024 * number) nothing_counted) (sym e)
@@ -199,12 +199,12 @@ module _ {Answer : Type 0} (form : ReportForm Answer) where
 
   -- a line was judged
   pub plays_more : (P : SessionView → Type 0) (knows later : form.Context → Type 0) (words : List Word) →
-      IsWritableForm words form → (start : Reader → Option (List ℕ) → Type 0) (now new : Reader) (held rest line : List ℕ) (n : ℕ)
+      IsWritableForm words form → (start : Reader → Option (List ℕ) → Type 0) (now new : Reader) (buffered rest line : List ℕ) (n : ℕ)
       (version : Version) (sessions next : List SessionView) (count : ℕ) (s t : Summary) (all b c : Option (List ℕ)) →
-      Plays P knows start now held n version sessions count s all → IsFound all now held n (Ok Line) line new rest → Keeps all b →
+      Plays P knows start now buffered n version sessions count s all → IsFound all now buffered n (Ok Line) line new rest → Keeps all b →
       Judges form knows later version (n + 1) (states_of sessions) line (states_of next) s t b c → IsMoreBy 1024 s t → All P next →
       length next ≡ length sessions → Plays P later start new rest (n + 1) version next count t c
-  plays_more P knows later words lawful start now new held rest line n version sessions next count s t all b c p f k judges few ready
+  plays_more P knows later words lawful start now new buffered rest line n version sessions next count s t all b c p f k judges few ready
       same = record {
         ready = ready;
         size = same ∙ p.size;
@@ -212,7 +212,7 @@ module _ {Answer : Type 0} (form : ReportForm Answer) where
         fits = omega (arith, f.4);
         playing = λ origin before h. let q = p.playing origin before h in let j = judges (form.next form.fresh q.reported) q.known in record {
           reported = q.reported ++ j.0;
-          has_read = line_read form before all origin now new held rest line n q.reported j.0 (Playing version (states_of sessions))
+          has_read = line_read form before all origin now new buffered rest line n q.reported j.0 (Playing version (states_of sessions))
               (Playing version (states_of next)) q.has_read q.written f j.1;
           counts = more_counts q.reported j.0 s t q.counts j.2;
           written = more_text q.reported j.0 before b c (appends_and_keeps before all b (texts_of form.text q.reported) q.written k) j.3;
@@ -222,75 +222,75 @@ module _ {Answer : Type 0} (form : ReportForm Answer) where
 
   -- ---- the end
 
-  pub finished_at_end : (P : SessionView → Type 0) (knows : form.Context → Type 0) (start : Reader → Option (List ℕ) → Type 0) (now new : Reader) (held rest line : List ℕ) (n : ℕ)
+  pub finished_at_end : (P : SessionView → Type 0) (knows : form.Context → Type 0) (start : Reader → Option (List ℕ) → Type 0) (now new : Reader) (buffered rest line : List ℕ) (n : ℕ)
       (version : Version) (sessions : List SessionView) (count : ℕ) (s : Summary) (all b c : Option (List ℕ))
-      (result : Result Answer LogFault) → Plays P knows start now held n version sessions count s all →
-      IsFound all now held n (Ok End) line new rest → Keeps all b →
+      (result : Result Answer LogFault) → Plays P knows start now buffered n version sessions count s all →
+      IsFound all now buffered n (Ok End) line new rest → Keeps all b →
       IfOk result (λ answer. IsFinished form None version (states_of sessions) s b c answer) →
       (origin : Reader) (before : Option (List ℕ)) → start origin before →
       IfOk result (λ answer. Reported form origin new before c answer)
-  finished_at_end P knows start now new held rest line n version sessions count s all b c result p f k r origin before h =
+  finished_at_end P knows start now new buffered rest line n version sessions count s all b c result p f k r origin before h =
       let q = p.playing origin before h in
       finished form origin new n q.reported version (states_of sessions) s before b c result
-      (end_read form before all origin now new held rest line n q.reported (Playing version (states_of sessions)) q.has_read q.written f)
+      (end_read form before all origin now new buffered rest line n q.reported (Playing version (states_of sessions)) q.has_read q.written f)
       q.counts (appends_and_keeps before all b (texts_of form.text q.reported) q.written k) r
 
-  pub finished_at_last : (P : SessionView → Type 0) (knows later : form.Context → Type 0) (start : Reader → Option (List ℕ) → Type 0) (now new : Reader) (held rest line : List ℕ) (n : ℕ)
+  pub finished_at_last : (P : SessionView → Type 0) (knows later : form.Context → Type 0) (start : Reader → Option (List ℕ) → Type 0) (now new : Reader) (buffered rest line : List ℕ) (n : ℕ)
       (version : Version) (sessions next : List SessionView) (count : ℕ) (s t : Summary) (all b c d : Option (List ℕ))
-      (result : Result Answer LogFault) → Plays P knows start now held n version sessions count s all →
-      IsFound all now held n (Ok Last) line new rest → Keeps all b →
+      (result : Result Answer LogFault) → Plays P knows start now buffered n version sessions count s all →
+      IsFound all now buffered n (Ok Last) line new rest → Keeps all b →
       Judges form knows later version (n + 1) (states_of sessions) line (states_of next) s t b c →
       IfOk result (λ answer. IsFinished form None version (states_of next) t c d answer) →
       (origin : Reader) (before : Option (List ℕ)) → start origin before →
       IfOk result (λ answer. Reported form origin new before d answer)
-  finished_at_last P knows later start now new held rest line n version sessions next count s t all b c d result p f k judges r origin
+  finished_at_last P knows later start now new buffered rest line n version sessions next count s t all b c d result p f k judges r origin
       before h =
       let q = p.playing origin before h in
       let j = judges (form.next form.fresh q.reported) q.known in
       finished form origin new (n + 1) (q.reported ++ j.0) version (states_of next) t before c d result
-      (last_read form before all origin now new held rest line n q.reported j.0 (Playing version (states_of sessions))
+      (last_read form before all origin now new buffered rest line n q.reported j.0 (Playing version (states_of sessions))
       (Playing version (states_of next)) q.has_read q.written f j.1)
       (more_counts q.reported j.0 s t q.counts j.2)
       (more_text q.reported j.0 before b c (appends_and_keeps before all b (texts_of form.text q.reported) q.written k) j.3) r
 
-  pub finished_at_cut : (P : SessionView → Type 0) (knows : form.Context → Type 0) (start : Reader → Option (List ℕ) → Type 0) (now new : Reader) (held rest line : List ℕ) (n : ℕ)
+  pub finished_at_cut : (P : SessionView → Type 0) (knows : form.Context → Type 0) (start : Reader → Option (List ℕ) → Type 0) (now new : Reader) (buffered rest line : List ℕ) (n : ℕ)
       (version : Version) (sessions : List SessionView) (count : ℕ) (s : Summary) (all b c : Option (List ℕ))
-      (result : Result Answer LogFault) → Plays P knows start now held n version sessions count s all →
-      IsFound all now held n (Ok Last) line new rest → Keeps all b → event_in version (length sessions) line ≡ None →
+      (result : Result Answer LogFault) → Plays P knows start now buffered n version sessions count s all →
+      IsFound all now buffered n (Ok Last) line new rest → Keeps all b → event_in version (length sessions) line ≡ None →
       form.cuts ≡ true → IfOk result (λ answer. IsFinished form (Some (n + 1)) version (states_of sessions) s b c answer) →
       (origin : Reader) (before : Option (List ℕ)) → start origin before →
       IfOk result (λ answer. Reported form origin new before c answer)
-  finished_at_cut P knows start now new held rest line n version sessions count s all b c result p f k wrong cuts r origin before h =
+  finished_at_cut P knows start now new buffered rest line n version sessions count s all b c result p f k wrong cuts r origin before h =
       let q = p.playing origin before h in
-      finished_cut form before all origin now new held rest line n q.reported version (states_of sessions) s b c result q.has_read
+      finished_cut form before all origin now new buffered rest line n q.reported version (states_of sessions) s b c result q.has_read
       q.written f (ap (λ (k : ℕ). event_in version k line) (length-map sessions (λ (g : SessionView). g.state)) ∙ wrong) cuts
       q.counts (appends_and_keeps before all b (texts_of form.text q.reported) q.written k) r
 
   -- the counts could not be written
-  pub unfinished : (failed refused : Type 0) (P : SessionView → Type 0) (knows : form.Context → Type 0) (start : Reader → Option (List ℕ) → Type 0) (now new : Reader) (held rest line : List ℕ) (n : ℕ)
+  pub unfinished : (failed refused : Type 0) (P : SessionView → Type 0) (knows : form.Context → Type 0) (start : Reader → Option (List ℕ) → Type 0) (now new : Reader) (buffered rest line : List ℕ) (n : ℕ)
       (version : Version) (sessions : List SessionView) (count : ℕ) (s : Summary) (all c : Option (List ℕ)) (found : LineEnd)
-      (result : Result Answer LogFault) → Plays P knows start now held n version sessions count s all →
-      IsFound all now held n (Ok found) line new rest → IfErr result (IsLateFault form failed refused) →
+      (result : Result Answer LogFault) → Plays P knows start now buffered n version sessions count s all →
+      IsFound all now buffered n (Ok found) line new rest → IfErr result (IsLateFault form failed refused) →
       (origin : Reader) (before : Option (List ℕ)) → start origin before →
       IfErr result (IsFaultAfter form origin new before c)
-  unfinished failed refused P knows start now new held rest line n version sessions count s all c found result p f e origin before h =
+  unfinished failed refused P knows start now new buffered rest line n version sessions count s all c found result p f e origin before h =
       let q = p.playing origin before h in
       write_failed form failed refused origin new before c result
-      (found_given form before all origin now new held rest line n q.reported (Playing version (states_of sessions)) found q.has_read
+      (found_given form before all origin now new buffered rest line n q.reported (Playing version (states_of sessions)) found q.has_read
       q.written f)
       e
 
   -- ---- faults
 
-  pub fault_in_play : (P : SessionView → Type 0) (knows : form.Context → Type 0) (start : Reader → Option (List ℕ) → Type 0) (now new : Reader) (held rest line : List ℕ) (n : ℕ)
+  pub fault_in_play : (P : SessionView → Type 0) (knows : form.Context → Type 0) (start : Reader → Option (List ℕ) → Type 0) (now new : Reader) (buffered rest line : List ℕ) (n : ℕ)
       (version : Version) (sessions : List SessionView) (count : ℕ) (s : Summary) (all c : Option (List ℕ)) (fault : LogFault) →
-      Plays P knows start now held n version sessions count s all → IsFound all now held n (Err fault) line new rest →
+      Plays P knows start now buffered n version sessions count s all → IsFound all now buffered n (Err fault) line new rest →
       (fault ≢ Faults.Write → Keeps all c) → (origin : Reader) (before : Option (List ℕ)) → start origin before →
       IsFaultAfter form origin new before c fault
-  fault_in_play P knows start now new held rest line n version sessions count s all c fault p f k origin before h =
+  fault_in_play P knows start now new buffered rest line n version sessions count s all c fault p f k origin before h =
       let q = p.playing origin before h in
       fault_after form origin new q.reported before c fault
-      (fault_found form before all origin now new held rest line n q.reported (Playing version (states_of sessions)) fault q.has_read
+      (fault_found form before all origin now new buffered rest line n q.reported (Playing version (states_of sessions)) fault q.has_read
       q.written f)
       (λ other. appends_and_keeps before all c (texts_of form.text q.reported) q.written (k other))
 
@@ -311,21 +311,21 @@ module _ {Answer : Type 0} (form : ReportForm Answer) where
       subst (IsFaultAfter form origin new before c) (sym e) (h origin before begins)
 
   -- a line without an allowed form, or a failed write
-  pub bad_in_play : (P : SessionView → Type 0) (knows : form.Context → Type 0) (start : Reader → Option (List ℕ) → Type 0) (now new : Reader) (held rest line : List ℕ) (n : ℕ)
+  pub bad_in_play : (P : SessionView → Type 0) (knows : form.Context → Type 0) (start : Reader → Option (List ℕ) → Type 0) (now new : Reader) (buffered rest line : List ℕ) (n : ℕ)
       (version : Version) (sessions : List SessionView) (count : ℕ) (s : Summary) (all b c : Option (List ℕ)) (found : LineEnd)
-      (fault : LogFault) → Plays P knows start now held n version sessions count s all →
-      IsFound all now held n (Ok found) line new rest → is_end_of_log found ≡ false → Keeps all b →
+      (fault : LogFault) → Plays P knows start now buffered n version sessions count s all →
+      IsFound all now buffered n (Ok found) line new rest → is_end_of_log found ≡ false → Keeps all b →
       (is_last_line found ≡ true → event_in version (length sessions) line ≡ None → form.cuts ≡ false) →
       {failed refused : Type 0} → IsLateFault form failed refused fault ⊎ ((fault ≡ Faults.BadLine (n + 1)) × (event_in version (length sessions) line ≡ None)
       × (c ≡ b)) → (origin : Reader) (before : Option (List ℕ)) → start origin before →
       IsFaultAfter form origin new before c fault
-  bad_in_play P knows start now new held rest line n version sessions count s all b c found fault p f other k uncut (inl e) origin before h =
+  bad_in_play P knows start now new buffered rest line n version sessions count s all b c found fault p f other k uncut (inl e) origin before h =
       let q = p.playing origin before h in
       late_fault form origin new before c fault
-      (found_given form before all origin now new held rest line n q.reported (Playing version (states_of sessions)) found q.has_read
+      (found_given form before all origin now new buffered rest line n q.reported (Playing version (states_of sessions)) found q.has_read
       q.written f)
       e
-  bad_in_play P knows start now new held rest line n version sessions count s all b c found fault p f other k uncut (inr r) origin before h =
+  bad_in_play P knows start now new buffered rest line n version sessions count s all b c found fault p f other k uncut (inr r) origin before h =
       subst (IsFaultAfter form origin new before c) (sym r.0) (
         q.reported,
         is_fault found f other (λ last. uncut last r.1),
@@ -333,21 +333,21 @@ module _ {Answer : Type 0} (form : ReportForm Answer) where
             (appends_and_keeps before all b (texts_of form.text q.reported) q.written k),
       )
     where
-      q : IsPlaying form knows origin now held n version (states_of sessions) s before all
+      q : IsPlaying form knows origin now buffered n version (states_of sessions) s before all
       q = p.playing origin before h
 
       is_bad : event_in version (length (states_of sessions)) line ≡ None
       is_bad = ap (λ (k : ℕ). event_in version k line) (length-map sessions (λ (g : SessionView). g.state)) ∙ r.1
 
-      is_fault : (found : LineEnd) → IsFound all now held n (Ok found) line new rest → is_end_of_log found ≡ false →
+      is_fault : (found : LineEnd) → IsFound all now buffered n (Ok found) line new rest → is_end_of_log found ≡ false →
           (is_last_line found ≡ true → form.cuts ≡ false) → IsFaultOf form before origin new q.reported (Faults.BadLine (n + 1))
       is_fault (Held k) f other whole =
-          bad_line form before all origin now new held rest line n q.reported (Playing version (states_of sessions)) q.has_read q.written
+          bad_line form before all origin now new buffered rest line n q.reported (Playing version (states_of sessions)) q.has_read q.written
           f is_bad
       is_fault Line f other whole =
-          bad_line form before all origin now new held rest line n q.reported (Playing version (states_of sessions)) q.has_read q.written
+          bad_line form before all origin now new buffered rest line n q.reported (Playing version (states_of sessions)) q.has_read q.written
           f is_bad
       is_fault Last f other whole =
-          bad_last form before all origin now new held rest line n q.reported (Playing version (states_of sessions)) q.has_read q.written
+          bad_last form before all origin now new buffered rest line n q.reported (Playing version (states_of sessions)) q.has_read q.written
           f is_bad (whole refl)
       is_fault End f other whole = absurd (cc)

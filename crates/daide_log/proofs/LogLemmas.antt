@@ -20,21 +20,21 @@ module _ {Answer : Type 0} (form : ReportForm Answer) where
   -- ---- the bytes that were consumed
 
   -- all bytes read, up to the end of those that were consumed
-  looked : (before all : Option (List ℕ)) (old now new : Reader) (held line rest : List ℕ) (n : ℕ) (reported : List form.Entry) (stage : LogState)
-      (h : HasRead form before old now held n reported stage) (k : LooksAt all now held n line new rest) →
+  looked : (before all : Option (List ℕ)) (old now new : Reader) (buffered line rest : List ℕ) (n : ℕ) (reported : List form.Entry) (stage : LogState)
+      (h : HasRead form before old now buffered n reported stage) (k : LooksAt all now buffered n line new rest) →
       h.given ++ k.0 ≡ (h.bytes ++ line) ++ rest
-  looked before all old now new held line rest n reported stage h k =
-      ap (λ (l : List ℕ). l ++ k.0) h.whole ∙ append_assoc h.bytes held k.0 ∙ ap (λ (l : List ℕ). h.bytes ++ l) k.2
+  looked before all old now new buffered line rest n reported stage h k =
+      ap (λ (l : List ℕ). l ++ k.0) h.whole ∙ append_assoc h.bytes buffered k.0 ∙ ap (λ (l : List ℕ). h.bytes ++ l) k.2
       ∙ sym (append_assoc h.bytes line rest)
 
   -- a read within the next line is in time
-  in_time : (before all : Option (List ℕ)) (old now : Reader) (held : List ℕ) (n : ℕ) (reported : List form.Entry) (stage : LogState)
-      (h : HasRead form before old now held n reported stage) → Appends before all (texts_of form.text reported) → (came : List ℕ)
-      (written : Option (List ℕ)) → IsInLine all held n came written → IsInTime form before (h.given ++ came) written
-  in_time before all old now held n reported stage h w came written q = record {
+  in_time : (before all : Option (List ℕ)) (old now : Reader) (buffered : List ℕ) (n : ℕ) (reported : List form.Entry) (stage : LogState)
+      (h : HasRead form before old now buffered n reported stage) → Appends before all (texts_of form.text reported) → (came : List ℕ)
+      (written : Option (List ℕ)) → IsInLine all buffered n came written → IsInTime form before (h.given ++ came) written
+  in_time before all old now buffered n reported stage h w came written q = record {
     bytes = h.bytes;
-    line = held ++ came;
-    whole = ap (λ (l : List ℕ). l ++ came) h.whole ∙ append_assoc h.bytes held came;
+    line = buffered ++ came;
+    whole = ap (λ (l : List ℕ). l ++ came) h.whole ∙ append_assoc h.bytes buffered came;
     number = n;
     reported = reported;
     stage = stage;
@@ -43,22 +43,22 @@ module _ {Answer : Type 0} (form : ReportForm Answer) where
     appended = appends_and_keeps before all written (texts_of form.text reported) w q.1;
   }
 
-  all_given : (before all : Option (List ℕ)) (old now new : Reader) (held line rest : List ℕ) (n : ℕ) (reported : List form.Entry)
-      (stage : LogState) (h : HasRead form before old now held n reported stage) → Appends before all (texts_of form.text reported) →
-      (k : LooksAt all now held n line new rest) → GivesInTime form before old new (h.given ++ k.0)
-  all_given before all old now new held line rest n reported stage h w k =
-      gives_on (IsInTime form before) (IsInLine all held n) old now new h.given k.0 h.gives k.1
-      (λ came written q. in_time before all old now held n reported stage h w came written q)
+  all_given : (before all : Option (List ℕ)) (old now new : Reader) (buffered line rest : List ℕ) (n : ℕ) (reported : List form.Entry)
+      (stage : LogState) (h : HasRead form before old now buffered n reported stage) → Appends before all (texts_of form.text reported) →
+      (k : LooksAt all now buffered n line new rest) → GivesInTime form before old new (h.given ++ k.0)
+  all_given before all old now new buffered line rest n reported stage h w k =
+      gives_on (IsInTime form before) (IsInLine all buffered n) old now new h.given k.0 h.gives k.1
+      (λ came written q. in_time before all old now buffered n reported stage h w came written q)
 
   -- all bytes read, up to the end of a last line without a line feed
-  last_given : (before all : Option (List ℕ)) (old now new : Reader) (held rest line : List ℕ) (n : ℕ) (reported : List form.Entry)
-      (stage : LogState) (h : HasRead form before old now held n reported stage) → Appends before all (texts_of form.text reported) →
-      IsFound all now held n (Ok Last) line new rest → GivesInTime form before old new (h.bytes ++ line)
-  last_given before all old now new held rest line n reported stage h w f =
+  last_given : (before all : Option (List ℕ)) (old now new : Reader) (buffered rest line : List ℕ) (n : ℕ) (reported : List form.Entry)
+      (stage : LogState) (h : HasRead form before old now buffered n reported stage) → Appends before all (texts_of form.text reported) →
+      IsFound all now buffered n (Ok Last) line new rest → GivesInTime form before old new (h.bytes ++ line)
+  last_given before all old now new buffered rest line n reported stage h w f =
       subst (GivesInTime form before old new)
-      (looked before all old now new held line rest n reported stage h f.0 ∙ ap (λ (l : List ℕ). (h.bytes ++ line) ++ l) f.1
+      (looked before all old now new buffered line rest n reported stage h f.0 ∙ ap (λ (l : List ℕ). (h.bytes ++ line) ++ l) f.1
       ∙ append-nil (h.bytes ++ line))
-      (all_given before all old now new held line rest n reported stage h w f.0)
+      (all_given before all old now new buffered line rest n reported stage h w f.0)
 
   given_bytes : (before : Option (List ℕ)) (old new : Reader) (given : List ℕ) → GivesInTime form before old new given →
       Consumes old.remaining new.remaining given
@@ -90,70 +90,70 @@ module _ {Answer : Type 0} (form : ReportForm Answer) where
   }
 
   -- the bytes read by reads in time, up to the end of the line that was found
-  pub found_given : (before all : Option (List ℕ)) (old now new : Reader) (held rest line : List ℕ) (n : ℕ)
-      (reported : List form.Entry) (stage : LogState) (found : LineEnd) → HasRead form before old now held n reported stage →
-      Appends before all (texts_of form.text reported) → IsFound all now held n (Ok found) line new rest →
+  pub found_given : (before all : Option (List ℕ)) (old now new : Reader) (buffered rest line : List ℕ) (n : ℕ)
+      (reported : List form.Entry) (stage : LogState) (found : LineEnd) → HasRead form before old now buffered n reported stage →
+      Appends before all (texts_of form.text reported) → IsFound all now buffered n (Ok found) line new rest →
       (given : List ℕ) × GivesInTime form before old new given
-  found_given before all old now new held rest line n reported stage (Held k) h w f =
-      (h.given ++ f.1.0, all_given before all old now new held (f.0 ++ 10 ∷ []) rest n reported stage h w f.1)
-  found_given before all old now new held rest line n reported stage Line h w f =
-      (h.given ++ f.1.0, all_given before all old now new held (f.0 ++ 10 ∷ []) rest n reported stage h w f.1)
-  found_given before all old now new held rest line n reported stage Last h w f =
-      (h.given ++ f.0.0, all_given before all old now new held line rest n reported stage h w f.0)
-  found_given before all old now new held rest line n reported stage End h w f =
-      (h.given ++ f.0.0, all_given before all old now new held [] rest n reported stage h w f.0)
+  found_given before all old now new buffered rest line n reported stage (Held k) h w f =
+      (h.given ++ f.1.0, all_given before all old now new buffered (f.0 ++ 10 ∷ []) rest n reported stage h w f.1)
+  found_given before all old now new buffered rest line n reported stage Line h w f =
+      (h.given ++ f.1.0, all_given before all old now new buffered (f.0 ++ 10 ∷ []) rest n reported stage h w f.1)
+  found_given before all old now new buffered rest line n reported stage Last h w f =
+      (h.given ++ f.0.0, all_given before all old now new buffered line rest n reported stage h w f.0)
+  found_given before all old now new buffered rest line n reported stage End h w f =
+      (h.given ++ f.0.0, all_given before all old now new buffered [] rest n reported stage h w f.0)
 
-  pub line_read : (before all : Option (List ℕ)) (old now new : Reader) (held rest line : List ℕ) (n : ℕ) (reported more : List form.Entry)
-      (stage after : LogState) → HasRead form before old now held n reported stage → Appends before all (texts_of form.text reported) →
-      IsFound all now held n (Ok Line) line new rest →
+  pub line_read : (before all : Option (List ℕ)) (old now new : Reader) (buffered rest line : List ℕ) (n : ℕ) (reported more : List form.Entry)
+      (stage after : LogState) → HasRead form before old now buffered n reported stage → Appends before all (texts_of form.text reported) →
+      IsFound all now buffered n (Ok Line) line new rest →
       GoesOnBy form (form.next form.fresh reported) (n + 1) stage line more after →
       HasRead form before old new rest (n + 1) (reported ++ more) after
-  line_read before all old now new held rest line n reported more stage after h w f on = record {
+  line_read before all old now new buffered rest line n reported more stage after h w f on = record {
     given = h.given ++ f.1.0;
-    gives = all_given before all old now new held (f.0 ++ 10 ∷ []) rest n reported stage h w f.1;
+    gives = all_given before all old now new buffered (f.0 ++ 10 ∷ []) rest n reported stage h w f.1;
     bytes = h.bytes ++ f.0 ++ 10 ∷ [];
-    whole = looked before all old now new held (f.0 ++ 10 ∷ []) rest n reported stage h f.1 ∙ simp append_assoc;
+    whole = looked before all old now new buffered (f.0 ++ 10 ∷ []) rest n reported stage h f.1 ∙ simp append_assoc;
     reports = ReportsBy.line h.bytes n reported stage h.reports f.0 more after f.4 f.2 f.3
         (subst (λ (l : List ℕ). GoesOnBy form (form.next form.fresh reported) (n + 1) stage l more after) f.5 on);
   }
 
-  pub last_read : (before all : Option (List ℕ)) (old now new : Reader) (held rest line : List ℕ) (n : ℕ) (reported more : List form.Entry)
-      (stage after : LogState) → HasRead form before old now held n reported stage → Appends before all (texts_of form.text reported) →
-      IsFound all now held n (Ok Last) line new rest →
+  pub last_read : (before all : Option (List ℕ)) (old now new : Reader) (buffered rest line : List ℕ) (n : ℕ) (reported more : List form.Entry)
+      (stage after : LogState) → HasRead form before old now buffered n reported stage → Appends before all (texts_of form.text reported) →
+      IsFound all now buffered n (Ok Last) line new rest →
       GoesOnBy form (form.next form.fresh reported) (n + 1) stage line more after →
       HasReadAll form before old new (n + 1) (reported ++ more) after
-  last_read before all old now new held rest line n reported more stage after h w f on = record {
+  last_read before all old now new buffered rest line n reported more stage after h w f on = record {
     given = h.bytes ++ line;
-    gives = last_given before all old now new held rest line n reported stage h w f;
+    gives = last_given before all old now new buffered rest line n reported stage h w f;
     ended = f.2;
     reports = ReportsAllBy.unended h.bytes n reported stage h.reports line more after f.6 f.5 f.3 f.4 on;
   }
 
-  pub end_read : (before all : Option (List ℕ)) (old now new : Reader) (held rest line : List ℕ) (n : ℕ) (reported : List form.Entry)
-      (stage : LogState) → HasRead form before old now held n reported stage → Appends before all (texts_of form.text reported) →
-      IsFound all now held n (Ok End) line new rest → HasReadAll form before old new n reported stage
-  end_read before all old now new held rest line n reported stage h w f = record {
+  pub end_read : (before all : Option (List ℕ)) (old now new : Reader) (buffered rest line : List ℕ) (n : ℕ) (reported : List form.Entry)
+      (stage : LogState) → HasRead form before old now buffered n reported stage → Appends before all (texts_of form.text reported) →
+      IsFound all now buffered n (Ok End) line new rest → HasReadAll form before old new n reported stage
+  end_read before all old now new buffered rest line n reported stage h w f = record {
     given = h.bytes;
     gives = subst (GivesInTime form before old new)
-        (looked before all old now new held [] rest n reported stage h f.0 ∙ ap (λ (l : List ℕ). (h.bytes ++ []) ++ l) f.1
+        (looked before all old now new buffered [] rest n reported stage h f.0 ∙ ap (λ (l : List ℕ). (h.bytes ++ []) ++ l) f.1
         ∙ append-nil (h.bytes ++ []) ∙ append-nil h.bytes)
-        (all_given before all old now new held [] rest n reported stage h w f.0);
+        (all_given before all old now new buffered [] rest n reported stage h w f.0);
     ended = f.2;
     reports = ReportsAllBy.ended h.bytes n reported stage h.reports;
   }
 
   -- ---- a fault
 
-  stops : (before all : Option (List ℕ)) (old now new : Reader) (held start beyond : List ℕ) (n : ℕ) (reported : List form.Entry)
-      (stage : LogState) (count : ℕ) (h : HasRead form before old now held n reported stage) → Appends before all (texts_of form.text reported) → LooksAt all now held n start new beyond →
+  stops : (before all : Option (List ℕ)) (old now new : Reader) (buffered start beyond : List ℕ) (n : ℕ) (reported : List form.Entry)
+      (stage : LogState) (count : ℕ) (h : HasRead form before old now buffered n reported stage) → Appends before all (texts_of form.text reported) → LooksAt all now buffered n start new beyond →
       length start ≡ count → length beyond < block_size → StopsBehind form before old new reported n count
-  stops before all old now new held start beyond n reported stage count h w k started few = record {
+  stops before all old now new buffered start beyond n reported stage count h w k started few = record {
     given = h.given ++ k.0;
-    gives = all_given before all old now new held start beyond n reported stage h w k;
+    gives = all_given before all old now new buffered start beyond n reported stage h w k;
     bytes = h.bytes;
     start = start;
     beyond = beyond;
-    whole = looked before all old now new held start beyond n reported stage h k;
+    whole = looked before all old now new buffered start beyond n reported stage h k;
     started = started;
     few = few;
     stage = stage;
@@ -161,29 +161,29 @@ module _ {Answer : Type 0} (form : ReportForm Answer) where
   }
 
   -- at the first byte of the block
-  stops_at_first : (before all : Option (List ℕ)) (old now new : Reader) (held rest : List ℕ) (n : ℕ) (reported : List form.Entry)
-      (stage : LogState) (h : HasRead form before old now held n reported stage) → Appends before all (texts_of form.text reported) → LooksAt all now held n [] new rest → 0 < length rest →
+  stops_at_first : (before all : Option (List ℕ)) (old now new : Reader) (buffered rest : List ℕ) (n : ℕ) (reported : List form.Entry)
+      (stage : LogState) (h : HasRead form before old now buffered n reported stage) → Appends before all (texts_of form.text reported) → LooksAt all now buffered n [] new rest → 0 < length rest →
       length rest ≤ block_size → StopsBehind form before old new reported n 1
-  stops_at_first before all old now new held [] n reported stage h w k some few = absurd (omega arith)
-  stops_at_first before all old now new held (x ∷ rest) n reported stage h w k some few =
-      stops before all old now new held (x ∷ []) rest n reported stage 1 h w (k.0, k.1, k.2) refl (omega arith)
+  stops_at_first before all old now new buffered [] n reported stage h w k some few = absurd (omega arith)
+  stops_at_first before all old now new buffered (x ∷ rest) n reported stage h w k some few =
+      stops before all old now new buffered (x ∷ []) rest n reported stage 1 h w (k.0, k.1, k.2) refl (omega arith)
 
-  pub bad_line : (before all : Option (List ℕ)) (old now new : Reader) (held rest line : List ℕ) (n : ℕ) (reported : List form.Entry)
-      (stage : LogState) → HasRead form before old now held n reported stage → Appends before all (texts_of form.text reported) →
-      IsFound all now held n (Ok Line) line new rest → IsBad stage line → IsFaultOf form before old new reported (Faults.BadLine (n + 1))
-  bad_line before all old now new held rest line n reported stage h w f wrong = (
+  pub bad_line : (before all : Option (List ℕ)) (old now new : Reader) (buffered rest line : List ℕ) (n : ℕ) (reported : List form.Entry)
+      (stage : LogState) → HasRead form before old now buffered n reported stage → Appends before all (texts_of form.text reported) →
+      IsFound all now buffered n (Ok Line) line new rest → IsBad stage line → IsFaultOf form before old new reported (Faults.BadLine (n + 1))
+  bad_line before all old now new buffered rest line n reported stage h w f wrong = (
     of_log (λ log. IsReportBy form log (texts_of form.text reported) (Err (Faults.BadLine (n + 1)))) old.remaining new.remaining (h.given ++ f.1.0)
-        (given_bytes before old new _ (all_given before all old now new held (f.0 ++ 10 ∷ []) rest n reported stage h w f.1))
+        (given_bytes before old new _ (all_given before all old now new buffered (f.0 ++ 10 ∷ []) rest n reported stage h w f.1))
         (λ more. subst (λ (log : List ℕ). IsReportBy form log (texts_of form.text reported) (Err (Faults.BadLine (n + 1)))) (same more)
         (IsReportBy.bad h.bytes n reported stage h.reports f.0 (rest ++ more) f.4 f.2 f.3
         (subst (IsBad stage) f.5 wrong))),
     inl (record {
       given = h.given ++ f.1.0;
-      gives = all_given before all old now new held (f.0 ++ 10 ∷ []) rest n reported stage h w f.1;
+      gives = all_given before all old now new buffered (f.0 ++ 10 ∷ []) rest n reported stage h w f.1;
       bytes = h.bytes;
       line = f.0;
       beyond = rest;
-      whole = looked before all old now new held (f.0 ++ 10 ∷ []) rest n reported stage h f.1 ∙ simp append_assoc;
+      whole = looked before all old now new buffered (f.0 ++ 10 ∷ []) rest n reported stage h f.1 ∙ simp append_assoc;
       unbroken = f.2;
       few = f.6;
       number = n;
@@ -194,14 +194,14 @@ module _ {Answer : Type 0} (form : ReportForm Answer) where
   )
     where
       same : (more : List ℕ) → h.bytes ++ f.0 ++ 10 ∷ (rest ++ more) ≡ (h.given ++ f.1.0) ++ more
-      same more = sym (ap (λ (l : List ℕ). l ++ more) (looked before all old now new held (f.0 ++ 10 ∷ []) rest n reported stage h f.1)
+      same more = sym (ap (λ (l : List ℕ). l ++ more) (looked before all old now new buffered (f.0 ++ 10 ∷ []) rest n reported stage h f.1)
           ∙ simp append_assoc)
 
-  pub bad_last : (before all : Option (List ℕ)) (old now new : Reader) (held rest line : List ℕ) (n : ℕ) (reported : List form.Entry)
-      (stage : LogState) → HasRead form before old now held n reported stage → Appends before all (texts_of form.text reported) →
-      IsFound all now held n (Ok Last) line new rest → IsBad stage line → reads_cut form stage ≡ false →
+  pub bad_last : (before all : Option (List ℕ)) (old now new : Reader) (buffered rest line : List ℕ) (n : ℕ) (reported : List form.Entry)
+      (stage : LogState) → HasRead form before old now buffered n reported stage → Appends before all (texts_of form.text reported) →
+      IsFound all now buffered n (Ok Last) line new rest → IsBad stage line → reads_cut form stage ≡ false →
       IsFaultOf form before old new reported (Faults.BadLine (n + 1))
-  bad_last before all old now new held rest line n reported stage h w f wrong uncut = (
+  bad_last before all old now new buffered rest line n reported stage h w f wrong uncut = (
     of_ended_log (λ log. IsReportBy form log (texts_of form.text reported) (Err (Faults.BadLine (n + 1)))) old.remaining new.remaining (h.bytes ++ line)
         (given_bytes before old new _ got) f.2
         (IsReportBy.bad_last h.bytes n reported stage h.reports line f.6 f.5 f.3 f.4 wrong uncut),
@@ -221,7 +221,7 @@ module _ {Answer : Type 0} (form : ReportForm Answer) where
   )
     where
       got : GivesInTime form before old new (h.bytes ++ line)
-      got = last_given before all old now new held rest line n reported stage h w f
+      got = last_given before all old now new buffered rest line n reported stage h w f
 
   pub ends_early : (before : Option (List ℕ)) (old new : Reader) (n : ℕ) (reported : List form.Entry) (stage : LogState) →
       HasReadAll form before old new n reported stage → IsOpening stage → IsFaultOf form before old new reported (Faults.BadLine (n + 1))
@@ -232,56 +232,56 @@ module _ {Answer : Type 0} (form : ReportForm Answer) where
     inr (inr (n, stage, refl, h)),
   )
 
-  pub fault_found : (before all : Option (List ℕ)) (old now new : Reader) (held rest line : List ℕ) (n : ℕ) (reported : List form.Entry) (stage : LogState)
-      (fault : LogFault) → HasRead form before old now held n reported stage → Appends before all (texts_of form.text reported) →
-      IsFound all now held n (Err fault) line new rest → IsFaultOf form before old new reported fault
-  fault_found before all old now new held rest line n reported stage (Faults.BadLine k) h w f = absurd f
-  fault_found before all old now new held rest line n reported stage (Faults.LineTooLong k) h w f = (
+  pub fault_found : (before all : Option (List ℕ)) (old now new : Reader) (buffered rest line : List ℕ) (n : ℕ) (reported : List form.Entry) (stage : LogState)
+      (fault : LogFault) → HasRead form before old now buffered n reported stage → Appends before all (texts_of form.text reported) →
+      IsFound all now buffered n (Err fault) line new rest → IsFaultOf form before old new reported fault
+  fault_found before all old now new buffered rest line n reported stage (Faults.BadLine k) h w f = absurd f
+  fault_found before all old now new buffered rest line n reported stage (Faults.LineTooLong k) h w f = (
     of_log (λ log. IsReportBy form log (texts_of form.text reported) (Err (Faults.LineTooLong k))) old.remaining new.remaining (h.given ++ f.1.0)
-        (given_bytes before old new _ (all_given before all old now new held f.0 rest n reported stage h w f.1))
+        (given_bytes before old new _ (all_given before all old now new buffered f.0 rest n reported stage h w f.1))
         (λ more. subst (λ (log : List ℕ). IsReportBy form log (texts_of form.text reported) (Err (Faults.LineTooLong k))) (same more)
         (subst (λ (m : ℕ). IsReportBy form (h.bytes ++ f.0 ++ (rest ++ more)) (texts_of form.text reported) (Err (Faults.LineTooLong m))) (sym f.5)
         (IsReportBy.too_long h.bytes n reported stage h.reports f.0 (rest ++ more) f.4 f.2 (omega (arith, f.3))))),
     n,
     f.5,
-    stops before all old now new held f.0 rest n reported stage (longest_line + 1) h w f.1 f.3 f.6,
+    stops before all old now new buffered f.0 rest n reported stage (longest_line + 1) h w f.1 f.3 f.6,
   )
     where
       same : (more : List ℕ) → h.bytes ++ f.0 ++ (rest ++ more) ≡ (h.given ++ f.1.0) ++ more
-      same more = sym (ap (λ (l : List ℕ). l ++ more) (looked before all old now new held f.0 rest n reported stage h f.1)
+      same more = sym (ap (λ (l : List ℕ). l ++ more) (looked before all old now new buffered f.0 rest n reported stage h f.1)
           ∙ simp append_assoc)
-  fault_found before all old now new held rest line n reported stage Faults.TooManyLines h w f = (
+  fault_found before all old now new buffered rest line n reported stage Faults.TooManyLines h w f = (
     of_log (λ log. IsReportBy form log (texts_of form.text reported) (Err Faults.TooManyLines)) old.remaining new.remaining (h.given ++ f.0.0)
-        (given_bytes before old new _ (all_given before all old now new held [] rest n reported stage h w f.0))
+        (given_bytes before old new _ (all_given before all old now new buffered [] rest n reported stage h w f.0))
         (λ more. subst (λ (log : List ℕ). IsReportBy form log (texts_of form.text reported) (Err Faults.TooManyLines)) (same more)
         (IsReportBy.too_many h.bytes reported stage
         (subst (λ (m : ℕ). ReportsBy form h.bytes m reported stage) f.2 h.reports) (rest ++ more)
         (omega (arith, f.1, length-append rest more)))),
     subst (λ (m : ℕ). StopsBehind form before old new reported m 1) f.2
-        (stops_at_first before all old now new held rest n reported stage h w f.0 f.1 f.3),
+        (stops_at_first before all old now new buffered rest n reported stage h w f.0 f.1 f.3),
   )
     where
       same : (more : List ℕ) → h.bytes ++ (rest ++ more) ≡ (h.given ++ f.0.0) ++ more
-      same more = sym (ap (λ (l : List ℕ). l ++ more) (looked before all old now new held [] rest n reported stage h f.0)
+      same more = sym (ap (λ (l : List ℕ). l ++ more) (looked before all old now new buffered [] rest n reported stage h f.0)
           ∙ ap (λ (l : List ℕ). (l ++ rest) ++ more) (append-nil h.bytes) ∙ simp append_assoc)
-  fault_found before all old now new held rest line n reported stage Faults.Read h w f = record {
+  fault_found before all old now new buffered rest line n reported stage Faults.Read h w f = record {
     given = h.given ++ f.1.0;
-    gives = all_given before all old now new held f.0 rest n reported stage h w f.1;
+    gives = all_given before all old now new buffered f.0 rest n reported stage h w f.1;
     bytes = h.bytes;
     line = f.0;
-    whole = looked before all old now new held f.0 rest n reported stage h f.1
+    whole = looked before all old now new buffered f.0 rest n reported stage h f.1
         ∙ ap (λ (l : List ℕ). (h.bytes ++ f.0) ++ l) f.2 ∙ append-nil (h.bytes ++ f.0);
     number = n;
     stage = stage;
     reports = h.reports;
     begun = f.3;
   }
-  fault_found before all old now new held rest line n reported stage Faults.Write h w f = (
+  fault_found before all old now new buffered rest line n reported stage Faults.Write h w f = (
     h.given ++ f.0,
-    gives_on (IsInTime form before) (IsInLine all held n) old now new h.given f.0 h.gives f.1
-        (λ came written q. in_time before all old now held n reported stage h w came written q),
+    gives_on (IsInTime form before) (IsInLine all buffered n) old now new h.given f.0 h.gives f.1
+        (λ came written q. in_time before all old now buffered n reported stage h w came written q),
   )
-  fault_found before all old now new held rest line n reported stage Faults.Memory h w f = absurd f
+  fault_found before all old now new buffered rest line n reported stage Faults.Memory h w f = absurd f
 
   -- ---- the whole log
 
@@ -316,16 +316,16 @@ module _ {Answer : Type 0} (form : ReportForm Answer) where
   finished old new n reported version sessions summary a b c (Err fault) h e w r = tt
 
   -- the counts were written after a cut last line
-  pub finished_cut : (before all : Option (List ℕ)) (old now new : Reader) (held rest line : List ℕ) (n : ℕ)
+  pub finished_cut : (before all : Option (List ℕ)) (old now new : Reader) (buffered rest line : List ℕ) (n : ℕ)
       (reported : List form.Entry) (version : Version) (sessions : List SessionState) (summary : Summary) (b c : Option (List ℕ))
-      (result : Result Answer LogFault) → HasRead form before old now held n reported (Playing version sessions) →
-      Appends before all (texts_of form.text reported) → IsFound all now held n (Ok Last) line new rest →
+      (result : Result Answer LogFault) → HasRead form before old now buffered n reported (Playing version sessions) →
+      Appends before all (texts_of form.text reported) → IsFound all now buffered n (Ok Last) line new rest →
       IsBad (Playing version sessions) line → form.cuts ≡ true → summary ≡ counted_over form.counted reported nothing_counted →
       Appends before b (texts_of form.text reported) →
       IfOk result (λ answer. IsFinished form (Some (n + 1)) version sessions summary b c answer) →
       IfOk result (λ answer. Reported form old new before c answer)
-  finished_cut before all old now new held rest line n reported version sessions summary b c (Err fault) h w f wrong cuts e v r = tt
-  finished_cut before all old now new held rest line n reported version sessions summary b c (Ok answer) h w f wrong cuts e v r =
+  finished_cut before all old now new buffered rest line n reported version sessions summary b c (Err fault) h w f wrong cuts e v r = tt
+  finished_cut before all old now new buffered rest line n reported version sessions summary b c (Ok answer) h w f wrong cuts e v r =
       subst (Reported form old new before c) (sym r.0) (
         h.bytes ++ line,
         got,
@@ -342,7 +342,7 @@ module _ {Answer : Type 0} (form : ReportForm Answer) where
       )
     where
       got : GivesInTime form before old new (h.bytes ++ line)
-      got = last_given before all old now new held rest line n reported (Playing version sessions) h w f
+      got = last_given before all old now new buffered rest line n reported (Playing version sessions) h w f
 
   -- ---- faults, and the text written before them
 
@@ -368,9 +368,9 @@ module _ {Answer : Type 0} (form : ReportForm Answer) where
     where
       go : (late : Bool) →
           MatchBool late ((given : List ℕ) × GivesInTime form a old new given)
-          ((opened : Opened) × (held : List ℕ) × IsOpened form opened a old new held × Keeps a b) →
+          ((opened : Opened) × (buffered : List ℕ) × IsOpened form opened a old new buffered × Keeps a b) →
           MatchBool late ((given : List ℕ) × GivesInTime form a old new given)
-          ((opened : Opened) × (held : List ℕ) × IsOpened form opened a old new held × Keeps a c)
+          ((opened : Opened) × (buffered : List ℕ) × IsOpened form opened a old new buffered × Keeps a c)
       go true g = g
       go false g = (g.0, g.1, g.2, keeps_more a b c g.3 k)
 
@@ -428,15 +428,15 @@ module _ {Answer : Type 0} (form : ReportForm Answer) where
   fault_given old new a b Faults.Write h = h
   fault_given old new a b Faults.Memory h = by_late form.late h
     where
-      go : (b : Bool) (opened : Opened) (held : List ℕ) →
-          IsOpenedBy form b (preamble_of opened.head) opened.lines a old new held →
+      go : (b : Bool) (opened : Opened) (buffered : List ℕ) →
+          IsOpenedBy form b (preamble_of opened.head) opened.lines a old new buffered →
           (given : List ℕ) × GivesInTime form a old new given
-      go true opened held k = (k.given, k.gives)
-      go false opened held k = (k.given, k.gives)
+      go true opened buffered k = (k.given, k.gives)
+      go false opened buffered k = (k.given, k.gives)
 
       by_late : (late : Bool) →
           MatchBool late ((given : List ℕ) × GivesInTime form a old new given)
-          ((opened : Opened) × (held : List ℕ) × IsOpened form opened a old new held × Keeps a b) →
+          ((opened : Opened) × (buffered : List ℕ) × IsOpened form opened a old new buffered × Keeps a b) →
           (given : List ℕ) × GivesInTime form a old new given
       by_late true g = g
       by_late false g = go g.0.is_ended g.0 g.1 g.2.0
@@ -499,7 +499,7 @@ module _ {Answer : Type 0} (form : ReportForm Answer) where
     where
       late : (b : Bool) → b ≡ true →
           MatchBool b ((given : List ℕ) × GivesInTime form a old new given)
-          ((opened : Opened) × (held : List ℕ) × IsOpened form opened a old new held × Keeps a b')
+          ((opened : Opened) × (buffered : List ℕ) × IsOpened form opened a old new buffered × Keeps a b')
       late true e = g
       late false e = absurd (cc)
 

@@ -24,7 +24,7 @@ use Rattle.daide_protocol.proofs.FrameShapes.{IsWholeFrame}
 use Rattle.daide_protocol.proofs.AnswerBytes.{even_right}
 use Rattle.daide_log.proofs.FramedLemmas.{Framed, framed}
 use Rattle.daide_reader.proofs.BodyLemmas.{place_in}
-use Rattle.daide_protocol.specs.Wires.{held_after}
+use Rattle.daide_protocol.specs.Wires.{frame_bytes_after}
 use Rattle.daide_log.specs.Reporting.{IsCaused, IsMade, IsUnder}
 use Rattle.daide_protocol.proofs.WireLemmas.{bytes_come-append}
 use Rattle.daide_log.specs.Explained.{ExplainedEntry, Moved, AreShownBy, ExplainsMove, ExplainsFrame, AreMessageLines, bytes_at}
@@ -49,7 +49,7 @@ pub record Found (s : SessionState) (side : Side) (piece : List ℕ) (move : Eff
   pub step : Transition before (Comes side byte) (move ∷ []) after
   pub rest : Runs after (bytes_come side back) [] new
   pub last : new ≡ after
-  pub held : fed s.limits.cap (coming s side).pending piece ≡ (coming before side).pending ++ byte ∷ []
+  pub frame_bytes : fed s.limits.cap (coming s side).pending piece ≡ (coming before side).pending ++ byte ∷ []
 
 some_move : (move : Effect) → ◌≡◌ {A = List Effect} (move ∷ []) [] → ⊥
 some_move move e = absurd (cc)
@@ -107,7 +107,7 @@ move_found (x ∷ piece) s side move new room run =
           step = subst (λ (m : List Effect). Transition s (Comes side x) m run.0) only run.3;
           rest = subst (λ (m : List Effect). Runs run.0 (bytes_come side piece) m new) none run.4;
           last = last;
-          held = rw loud refl;
+          frame_bytes = rw loud refl;
         }
 
     fed_next : last_items cap (b ++ x ∷ []) ≡ [] → next ≡ run.0 →
@@ -147,7 +147,7 @@ move_found (x ∷ piece) s side move new room run =
           step = found.step;
           rest = found.rest;
           last = found.last;
-          held = fed_next e is_next ∙ found.held;
+          frame_bytes = fed_next e is_next ∙ found.frame_bytes;
         }
     by_ending _ e (Ending.refused code) live later =
         let over : is_over run.0.phase ≡ true = sym (ap (λ (o : Successor). is_over o.state.phase) (made live)) ∙ rw e (rw (ap is_over (pending_phase s side (b ++ x ∷ [])) ∙ live) refl) in
@@ -400,7 +400,7 @@ frame_asked before after side byte move head deed step reported = by_phase (is_o
 
 -- ---- what the session still holds
 
-kept_by : (head : Head) (v : Verdict) (bytes : List ℕ) → held_after (Notes.Frame head (deed_of true v)) bytes ≡ bytes
+kept_by : (head : Head) (v : Verdict) (bytes : List ℕ) → frame_bytes_after (Notes.Frame head (deed_of true v)) bytes ≡ bytes
 kept_by head Relay bytes = refl
 kept_by head Prn bytes = refl
 kept_by head (Huh place) bytes = refl
@@ -451,13 +451,13 @@ module _ (config : Config) (words : List Word) (old : SessionView) (side : Side)
     where
       of_fate : (k : Bool) (before after : SessionState) (bytes : List ℕ) (q : Option Question) →
           before.limits ≡ limits_with config words → after ≡ new.state →
-          (holding new side).held ≡ held_after (Notes.Frame head deed) bytes →
+          (holding new side).frame_bytes ≡ frame_bytes_after (Notes.Frame head deed) bytes →
           MatchBool k (IsFate before side bytes q (coming after side).noted deed) (q ≡ None) →
           MatchBool k (IsRightFate words config side deed new) ⊤
-      of_fate false before after bytes q limits same held h = tt
-      of_fate true before after bytes q limits same held h =
-          let frame_outcome : bytes ≡ (holding new side).held =
-          sym (held ∙ ap (λ (d : Deed). held_after (Notes.Frame head d) bytes) h.made ∙ kept_by head h.by bytes) in
+      of_fate false before after bytes q limits same frame_bytes h = tt
+      of_fate true before after bytes q limits same frame_bytes h =
+          let frame_outcome : bytes ≡ (holding new side).frame_bytes =
+          sym (frame_bytes ∙ ap (λ (d : Deed). frame_bytes_after (Notes.Frame head d) bytes) h.made ∙ kept_by head h.by bytes) in
           let verdict = subst (λ (l : Limits). HasVerdict (IsMessageOver l.words (side2_of side) (coming after side).noted)
           l.max_depth (tokens_of (drop 4 bytes)) (verdict_by deed)) limits h.verdict in
           let level = ap (λ (s : SessionState). (coming s side).noted) same in
@@ -479,7 +479,7 @@ module _ (config : Config) (words : List Word) (old : SessionView) (side : Side)
               even = ap (λ (b : List ℕ). length (drop 4 b) % 2) (sym frame_outcome) ∙ h.even;
             };
             within = place_in (IsMessageOver (grammar_words words) (side2_of side) (coming new.state side).noted)
-                config.max_depth (drop 4 (holding new side).held) (verdict_by deed) right;
+                config.max_depth (drop 4 (holding new side).frame_bytes) (verdict_by deed) right;
             verdict = right;
           }
 
@@ -491,15 +491,15 @@ module _ (config : Config) (words : List Word) (old : SessionView) (side : Side)
           of_fate (is_dm head.kind) f.before f.after ((coming f.before side).pending ++ f.byte ∷ [])
           (question f.before (Comes side f.byte)) (limits_before (bytes_come side piece) (made.move ∷ []) f.front f.before run f.first)
           (sym f.last)
-          (takes.bytes ∙ ap (held_after (Notes.Frame head deed))
-          (ap (λ (b : List ℕ). fed old.state.limits.cap b piece) tied ∙ f.held))
+          (takes.bytes ∙ ap (frame_bytes_after (Notes.Frame head deed))
+          (ap (λ (b : List ℕ). fed old.state.limits.cap b piece) tied ∙ f.frame_bytes))
           (frame_asked f.before f.after side f.byte made.move head deed f.step made.same)
       by_cause (IsCaused.by_end e) =
           let none : Notes.Nothing ≡ Notes.Frame head deed =
           sym (end_reported old.state side made.move new.state
           (subst (λ (es : List Event). Runs old.state es (made.move ∷ []) new.state) e made.run)) ∙ made.same in
           absurd (cc)
-      by_cause (IsCaused.by_timer e bot held) =
+      by_cause (IsCaused.by_timer e bot frame_bytes) =
           absurd (timer_reported old.state made.move new.state head deed
           (subst (λ (es : List Event). Runs old.state es (made.move ∷ []) new.state) e made.run) made.same)
       by_cause (IsCaused.by_stop e is) = absurd (cc)
@@ -596,20 +596,20 @@ module _ (config : Config) (words : List Word) (old : SessionView) (side : Side)
       of_asked : (k : Bool) (head : Head) (deed : Deed) (before after : SessionState) (event : Event) →
           is_dm head.kind ≡ k →
           before.limits ≡ limits_with config words → after ≡ new.state →
-          (holding new side).held ≡ held_after (Notes.Frame head deed) (bytes_at before side event) →
+          (holding new side).frame_bytes ≡ frame_bytes_after (Notes.Frame head deed) (bytes_at before side event) →
           MatchBool k (IsFate before side (bytes_at before side event) (question before event) (coming after side).noted deed)
           (question before event ≡ None) →
           MatchBool k (AreMessageLines words (side2_of side) (coming new.state side).noted
           (capped_from (limits_with config words).top_level level (coming new.state side).noted) config.max_depth
-          (drop 4 (holding new side).held) (verdict_by deed) lines) (lines ≡ []) →
+          (drop 4 (holding new side).frame_bytes) (verdict_by deed) lines) (lines ≡ []) →
           ExplainsMove words level side before event (Notes.Frame head deed) lines
-      of_asked false head deed before after event k limits same held h l =
+      of_asked false head deed before after event k limits same frame_bytes h l =
           subst (λ (q : Option Question). ExplainsFrame words before.limits level q
           (drop 4 (bytes_at before side event)) deed lines) (sym h) l
-      of_asked true head deed before after event k limits same held h l =
+      of_asked true head deed before after event k limits same frame_bytes h l =
           let bytes = bytes_at before side event in
-          let frame_outcome : (holding new side).held ≡ bytes =
-          held ∙ ap (λ (d : Deed). held_after (Notes.Frame head d) bytes) h.made ∙ kept_by head h.by bytes in
+          let frame_outcome : (holding new side).frame_bytes ≡ bytes =
+          frame_bytes ∙ ap (λ (d : Deed). frame_bytes_after (Notes.Frame head d) bytes) h.made ∙ kept_by head h.by bytes in
           subst (λ (q : Option Question). ExplainsFrame words before.limits level q (drop 4 bytes) deed lines)
           (sym h.asked) (
             refl,
@@ -626,17 +626,17 @@ module _ (config : Config) (words : List Word) (old : SessionView) (side : Side)
 
       -- the level that the held frame announces is the one that the judged message announces
       heard_asked : (k : Bool) (head : Head) (deed : Deed) (before after : SessionState) (event : Event) →
-          (holding new side).held ≡ held_after (Notes.Frame head deed) (bytes_at before side event) →
+          (holding new side).frame_bytes ≡ frame_bytes_after (Notes.Frame head deed) (bytes_at before side event) →
           MatchBool k (IsFate before side (bytes_at before side event) (question before event) (coming after side).noted deed)
           (question before event ≡ None) →
           announced_at (question before event) (verdict_by deed) level
-          ≡ cond k (announced_if (verdict_by deed) side (tokens_of (drop 4 (holding new side).held)) level) level
-      heard_asked false head deed before after event held h =
+          ≡ cond k (announced_if (verdict_by deed) side (tokens_of (drop 4 (holding new side).frame_bytes)) level) level
+      heard_asked false head deed before after event frame_bytes h =
           ap (λ (q : Option Question). announced_at q (verdict_by deed) level) h
-      heard_asked true head deed before after event held h =
+      heard_asked true head deed before after event frame_bytes h =
           let bytes = bytes_at before side event in
-          let frame_outcome : (holding new side).held ≡ bytes =
-          held ∙ ap (λ (d : Deed). held_after (Notes.Frame head d) bytes) h.made ∙ kept_by head h.by bytes in
+          let frame_outcome : (holding new side).frame_bytes ≡ bytes =
+          frame_bytes ∙ ap (λ (d : Deed). frame_bytes_after (Notes.Frame head d) bytes) h.made ∙ kept_by head h.by bytes in
           ap (λ (q : Option Question). announced_at q (verdict_by deed) level) h.asked
           ∙ ap (λ (b : List ℕ). announced_if (verdict_by deed) side (tokens_of (drop 4 b)) level) (sym frame_outcome)
 
@@ -645,43 +645,43 @@ module _ (config : Config) (words : List Word) (old : SessionView) (side : Side)
 
       of_bytes : (note : Note) (piece : List ℕ) (f : Found old.state side piece made.move new.state) → made.move.reported ≡ note →
           Runs old.state (bytes_come side piece) (made.move ∷ []) new.state →
-          (holding new side).held ≡ held_after note ((coming f.before side).pending ++ f.byte ∷ []) →
+          (holding new side).frame_bytes ≡ frame_bytes_after note ((coming f.before side).pending ++ f.byte ∷ []) →
           AreLinesBy words (limits_with config words) level side note new lines →
           ExplainsMove words level side f.before (Comes side f.byte) note lines
-      of_bytes Notes.Nothing piece f e run held l = l
-      of_bytes (Notes.Fault code) piece f e run held l =
+      of_bytes Notes.Nothing piece f e run frame_bytes l = l
+      of_bytes (Notes.Fault code) piece f e run frame_bytes l =
           let same = limits_before (bytes_come side piece) (made.move ∷ []) f.front f.before run f.first in
-          l ∙ ap (λ (b : List ℕ). fault_lines new.state.limits.cap code b) held
+          l ∙ ap (λ (b : List ℕ). fault_lines new.state.limits.cap code b) frame_bytes
           ∙ ap (λ (m : Limits). fault_lines m.cap code ((coming f.before side).pending ++ f.byte ∷ []))
           (under.limits ∙ sym same)
-      of_bytes Notes.Stopped piece f e run held l = l
-      of_bytes (Notes.Frame head deed) piece f e run held l =
+      of_bytes Notes.Stopped piece f e run frame_bytes l = l
+      of_bytes (Notes.Frame head deed) piece f e run frame_bytes l =
           of_asked (is_dm head.kind) head deed f.before f.after (Comes side f.byte) refl
-          (limits_before (bytes_come side piece) (made.move ∷ []) f.front f.before run f.first) (sym f.last) held
+          (limits_before (bytes_come side piece) (made.move ∷ []) f.front f.before run f.first) (sym f.last) frame_bytes
           (frame_asked f.before f.after side f.byte made.move head deed f.step e) l
 
       heard_of_bytes : (note : Note) (piece : List ℕ) (f : Found old.state side piece made.move new.state) →
           made.move.reported ≡ note →
-          (holding new side).held ≡ held_after note ((coming f.before side).pending ++ f.byte ∷ []) →
+          (holding new side).frame_bytes ≡ frame_bytes_after note ((coming f.before side).pending ++ f.byte ∷ []) →
           announced_after note (question f.before (Comes side f.byte)) level ≡ announced_by_held side note new level
-      heard_of_bytes Notes.Nothing piece f e held = refl
-      heard_of_bytes (Notes.Fault code) piece f e held = refl
-      heard_of_bytes Notes.Stopped piece f e held = refl
-      heard_of_bytes (Notes.Frame head deed) piece f e held =
-          heard_asked (is_dm head.kind) head deed f.before f.after (Comes side f.byte) held
+      heard_of_bytes Notes.Nothing piece f e frame_bytes = refl
+      heard_of_bytes (Notes.Fault code) piece f e frame_bytes = refl
+      heard_of_bytes Notes.Stopped piece f e frame_bytes = refl
+      heard_of_bytes (Notes.Frame head deed) piece f e frame_bytes =
+          heard_asked (is_dm head.kind) head deed f.before f.after (Comes side f.byte) frame_bytes
           (frame_asked f.before f.after side f.byte made.move head deed f.step e)
 
       of_timer : (note : Note) → made.move.reported ≡ note → Runs old.state (ImTimerExpired ∷ []) (made.move ∷ []) new.state →
-          (holding new side).held ≡ (coming old.state side).pending →
+          (holding new side).frame_bytes ≡ (coming old.state side).pending →
           AreLinesBy words (limits_with config words) level side note new lines →
           ExplainsMove words level side old.state ImTimerExpired note lines
-      of_timer Notes.Nothing e run held l = l
-      of_timer (Notes.Fault code) e run held l =
-          l ∙ ap (λ (b : List ℕ). fault_lines new.state.limits.cap code b) held
+      of_timer Notes.Nothing e run frame_bytes l = l
+      of_timer (Notes.Fault code) e run frame_bytes l =
+          l ∙ ap (λ (b : List ℕ). fault_lines new.state.limits.cap code b) frame_bytes
           ∙ ap (λ (m : Limits). fault_lines m.cap code (coming old.state side).pending)
           (runs_limits (ImTimerExpired ∷ []) old.state new.state (made.move ∷ []) run)
-      of_timer Notes.Stopped e run held l = l
-      of_timer (Notes.Frame head deed) e run held l =
+      of_timer Notes.Stopped e run frame_bytes l = l
+      of_timer (Notes.Frame head deed) e run frame_bytes l =
           absurd (timer_reported old.state made.move new.state head deed run e)
 
       of_end : (note : Note) → made.move.reported ≡ note → Runs old.state (Ends side ∷ []) (made.move ∷ []) new.state →
@@ -732,12 +732,12 @@ module _ (config : Config) (words : List Word) (old : SessionView) (side : Side)
       by_cause (IsCaused.by_bytes piece e room tied takes) =
           let run = subst Run e made.run in
           let f = move_found piece old.state side made.move new.state (room_is_missing old side (length piece) room) run in
-          let held = takes.bytes ∙ ap (held_after reported) (ap (λ (b : List ℕ). fed old.state.limits.cap b piece) tied ∙ f.held) in
+          let frame_bytes = takes.bytes ∙ ap (frame_bytes_after reported) (ap (λ (b : List ℕ). fed old.state.limits.cap b piece) tied ∙ f.frame_bytes) in
           subst (λ (es : List Event). AreShownBy words levels source side old.state es (made.move ∷ []) new.state
           (shown_as source made.move lines heard)) (sym e)
-          (as_heard (bytes_come side piece) f.before (Comes side f.byte) (heard_of_bytes reported piece f made.same held)
+          (as_heard (bytes_come side piece) f.before (Comes side f.byte) (heard_of_bytes reported piece f made.same frame_bytes)
           (shown_by_bytes levels source piece made.move lines f
-          (own (Comes side f.byte) f.before (of_bytes reported piece f made.same run held are))))
+          (own (Comes side f.byte) f.before (of_bytes reported piece f made.same run frame_bytes are))))
       by_cause (IsCaused.by_end e) =
           let run = subst Run e made.run in
           let is = end_reported old.state side made.move new.state run in
@@ -748,7 +748,7 @@ module _ (config : Config) (words : List Word) (old : SessionView) (side : Side)
           (λ head deed same. let none : Notes.Nothing ≡ Notes.Frame head deed = sym is ∙ made.same ∙ same in absurd (cc)))
           (shown_by_one levels source (Ends side) made.move lines run
           (own (Ends side) old.state (of_end reported made.same run are))))
-      by_cause (IsCaused.by_timer e bot held) =
+      by_cause (IsCaused.by_timer e bot frame_bytes) =
           let run = subst Run e made.run in
           subst (λ (es : List Event). AreShownBy words levels source side old.state es (made.move ∷ []) new.state
           (shown_as source made.move lines heard)) (sym e)
@@ -756,7 +756,7 @@ module _ (config : Config) (words : List Word) (old : SessionView) (side : Side)
           (heard_of_one reported ImTimerExpired refl
           (λ head deed same. timer_reported old.state made.move new.state head deed run (made.same ∙ same)))
           (shown_by_one levels source ImTimerExpired made.move lines run
-          (own ImTimerExpired old.state (of_timer reported made.same run held are))))
+          (own ImTimerExpired old.state (of_timer reported made.same run frame_bytes are))))
       by_cause (IsCaused.by_stop e is) =
           let run = subst Run e made.run in
           subst (λ (es : List Event). AreShownBy words levels source side old.state es (made.move ∷ []) new.state

@@ -77,13 +77,13 @@ message_line words tokens e =
 -- ---- a message for which only its text is written
 
 pub text_alone : (words : List Word) (limits : Limits) (announced : Level) (side : Side) (head : Head) (deed : Deed) (new : SessionView)
-    (body : List ℕ) → is_dm head.kind ≡ true → verdict_by deed ≡ Relay → body ≡ drop 4 (holding new side).held →
+    (body : List ℕ) → is_dm head.kind ≡ true → verdict_by deed ≡ Relay → body ≡ drop 4 (holding new side).frame_bytes →
     AreLinesBy words limits announced side (Notes.Frame head deed) new (with_line_feed (message_text words (tokens_of body)))
 text_alone words limits announced side head deed new body k v b =
     rw k (rw v (ap (λ (l : List ℕ). with_line_feed (message_text words (tokens_of l))) b))
 
 pub body_even : (words : List Word) (config : Config) (side : Side) (head : Head) (deed : Deed) (new : SessionView)
-    (body : List ℕ) → is_dm head.kind ≡ true → body ≡ drop 4 (holding new side).held →
+    (body : List ℕ) → is_dm head.kind ≡ true → body ≡ drop 4 (holding new side).frame_bytes →
     IsRightlyReported words config side (Notes.Frame head deed) new → length body % 2 ≡ 0
 body_even words config side head deed new body k b right =
     let right = rw k at right in ap (λ (l : List ℕ). length l % 2) b ∙ right.ruled.even

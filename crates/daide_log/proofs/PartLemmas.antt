@@ -37,36 +37,36 @@ more_parts all left more after m n a b c p e h = record {
 abbrev one_part : Option ℕ → Side → Option ℕ → ℕ → List Part
 one_part number side size came = record { session = number; side = side; came = came; size = size } ∷ []
 
-pub part_is : (number : Option ℕ) (side : Side) (cap : ℕ) (at_fault : Bool) (held : List ℕ) →
-    part_with number side (part_by (length (take 4 held)) (length (drop 4 held)) at_fault (announced cap held))
-    ≡ part_of number side cap at_fault held
+pub part_is : (number : Option ℕ) (side : Side) (cap : ℕ) (at_fault : Bool) (frame_bytes : List ℕ) →
+    part_with number side (part_by (length (take 4 frame_bytes)) (length (drop 4 frame_bytes)) at_fault (announced cap frame_bytes))
+    ≡ part_of number side cap at_fault frame_bytes
 part_is number side cap at_fault [] = refl
 part_is number side cap true (p ∷ []) = refl
 part_is number side cap true (p ∷ q ∷ []) = refl
 part_is number side cap true (p ∷ q ∷ r ∷ []) = refl
-part_is number side cap true (p ∷ q ∷ r ∷ s ∷ held) = refl
+part_is number side cap true (p ∷ q ∷ r ∷ s ∷ frame_bytes) = refl
 part_is number side cap false (p ∷ []) = refl
 part_is number side cap false (p ∷ q ∷ []) = refl
 part_is number side cap false (p ∷ q ∷ r ∷ []) = refl
-part_is number side cap false (p ∷ q ∷ r ∷ s ∷ held) =
-    let same : 4 + length held ≡ length (p ∷ q ∷ r ∷ s ∷ held) = omega arith in
-    let long : nat_lt (length (p ∷ q ∷ r ∷ s ∷ held)) 4 ≡ false = ltb_no (length (p ∷ q ∷ r ∷ s ∷ held)) 4 (omega arith) in
-    ap (one_part number side (Some (4 + announced cap (p ∷ q ∷ r ∷ s ∷ held)))) same
-    ∙ ap (λ (b : Bool). one_part number side (cond b None (Some (4 + announced cap (p ∷ q ∷ r ∷ s ∷ held))))
-    (length (p ∷ q ∷ r ∷ s ∷ held))) (sym long)
+part_is number side cap false (p ∷ q ∷ r ∷ s ∷ frame_bytes) =
+    let same : 4 + length frame_bytes ≡ length (p ∷ q ∷ r ∷ s ∷ frame_bytes) = omega arith in
+    let long : nat_lt (length (p ∷ q ∷ r ∷ s ∷ frame_bytes)) 4 ≡ false = ltb_no (length (p ∷ q ∷ r ∷ s ∷ frame_bytes)) 4 (omega arith) in
+    ap (one_part number side (Some (4 + announced cap (p ∷ q ∷ r ∷ s ∷ frame_bytes)))) same
+    ∙ ap (λ (b : Bool). one_part number side (cond b None (Some (4 + announced cap (p ∷ q ∷ r ∷ s ∷ frame_bytes))))
+    (length (p ∷ q ∷ r ∷ s ∷ frame_bytes))) (sym long)
 
-pub part_found : (number : Option ℕ) (side : Side) (cap : ℕ) (at_fault : Bool) (held pending : List ℕ) (header body : ℕ)
-    (fault : Bool) (size : ℕ) (part : Option reports.Part) → header ≡ length (take 4 held) → body ≡ length (drop 4 held) →
-    fault ≡ at_fault → size ≡ announced_by (head_in cap held) → part ≡ part_by header body fault size → held ≡ pending →
+pub part_found : (number : Option ℕ) (side : Side) (cap : ℕ) (at_fault : Bool) (frame_bytes pending : List ℕ) (header body : ℕ)
+    (fault : Bool) (size : ℕ) (part : Option reports.Part) → header ≡ length (take 4 frame_bytes) → body ≡ length (drop 4 frame_bytes) →
+    fault ≡ at_fault → size ≡ announced_by (head_in cap frame_bytes) → part ≡ part_by header body fault size → frame_bytes ≡ pending →
     part_with number side part ≡ part_of number side cap at_fault pending
 unfolding announced
-part_found number side cap at_fault held pending header body fault size part e f k n p tied =
+part_found number side cap at_fault frame_bytes pending header body fault size part e f k n p tied =
     ap (part_with number side) (p
     ∙ ap (λ (h : ℕ). part_by h body fault size) e
-    ∙ ap (λ (b : ℕ). part_by (length (take 4 held)) b fault size) f
-    ∙ ap (λ (b : Bool). part_by (length (take 4 held)) (length (drop 4 held)) b size) k
-    ∙ ap (λ (m : ℕ). part_by (length (take 4 held)) (length (drop 4 held)) at_fault m) n)
-    ∙ part_is number side cap at_fault held
+    ∙ ap (λ (b : ℕ). part_by (length (take 4 frame_bytes)) b fault size) f
+    ∙ ap (λ (b : Bool). part_by (length (take 4 frame_bytes)) (length (drop 4 frame_bytes)) b size) k
+    ∙ ap (λ (m : ℕ). part_by (length (take 4 frame_bytes)) (length (drop 4 frame_bytes)) at_fault m) n)
+    ∙ part_is number side cap at_fault frame_bytes
     ∙ ap (part_of number side cap at_fault) tied
 
 -- ---- one session of a slice at a time

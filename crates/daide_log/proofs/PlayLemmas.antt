@@ -68,7 +68,7 @@ only_one (move ∷ another ∷ moves) reported one some = absurd one
 
 -- bytes that cause a move
 pub piece_made : (old new : SessionView) (side : Side) (piece : List ℕ) (reported : Note) → length piece ≤ room_of old side →
-    (holding old side).held ≡ (coming old.state side).pending → Refines old (bytes_come side piece) reported new →
+    (holding old side).frame_bytes ≡ (coming old.state side).pending → Refines old (bytes_come side piece) reported new →
     ReceivesBytes old side piece reported new → (reported ≡ Notes.Nothing → ⊥) → IsMade old (bytes_come side piece) side reported new
 piece_made old new side piece reported room tied g takes some =
     let few = room_is_missing old side (length piece) room in
@@ -92,7 +92,7 @@ piece_silent old new side piece reported room g e =
     (no_move g.effects reported (subst (IsOneEffect g.effects) (sym g.note) one) e) g.run
 
 -- the timer
-pub timer_made : (old new : SessionView) (reported : Note) → (holding old Bot).held ≡ (coming old.state Bot).pending →
+pub timer_made : (old new : SessionView) (reported : Note) → (holding old Bot).frame_bytes ≡ (coming old.state Bot).pending →
     Refines old (ImTimerExpired ∷ []) reported new → HoldsTheSame old new → (reported ≡ Notes.Nothing → ⊥) →
     IsMade old (ImTimerExpired ∷ []) Bot reported new
 timer_made old new reported tied g holds some =
@@ -102,7 +102,7 @@ timer_made old new reported tied g holds some =
       move = only.move;
       run = subst (λ (moves : List Effect). Runs old.state (ImTimerExpired ∷ []) moves new.state) only.only g.run;
       same = only.same;
-      caused = IsCaused.by_timer refl refl (ap (λ (h : Holding). h.held) holds.0 ∙ tied);
+      caused = IsCaused.by_timer refl refl (ap (λ (h : Holding). h.frame_bytes) holds.0 ∙ tied);
     }
 
 pub timer_silent : (old new : SessionView) (reported : Note) → Refines old (ImTimerExpired ∷ []) reported new → reported ≡ Notes.Nothing →

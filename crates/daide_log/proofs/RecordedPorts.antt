@@ -169,44 +169,44 @@ kept_fails failure old new other (inr t) f = cause t.written
 
 -- ---- one call
 
-data Outcome (config : Config) (words : List Word) (items : List RecordItem) (answer : PortCall) (new : Written) :
+data Outcome (config : Config) (words : List Word) (items : List RecordItem) (call : PortCall) (new : Written) :
     Type 0 where
-  further : (more : List RecordItem) → calls_in more ≡ calls_in items ++ answer ∷ [] → IsWholeOf config words more new →
-      Outcome config words items answer new
+  further : (more : List RecordItem) → calls_in more ≡ calls_in items ++ call ∷ [] → IsWholeOf config words more new →
+      Outcome config words items call new
   full : (more : List RecordItem) → calls_in more ≡ calls_in items → IsFullOf config words more new →
-      Outcome config words items answer new
-  failed : new.ending ≡ Failed → Outcome config words items answer new
+      Outcome config words items call new
+  failed : new.ending ≡ Failed → Outcome config words items call new
 
-call_lined : (failure : Type 0) (config : Config) (words : List Word) (items before : List RecordItem) (answer : PortCall)
+call_lined : (failure : Type 0) (config : Config) (words : List Word) (items before : List RecordItem) (call : PortCall)
     (event : LogEvent) (old new : Written) → calls_in before ≡ calls_in items → IsWholeOf config words before old →
-    IsPiece answer → reported_by answer ≡ Some event → TakesEvent failure old.ending old event new →
-    Outcome config words items answer new
-call_lined failure config words items before answer event old new same h piece reported t =
-    go (text_taken failure config words before (Called answer) (event_line event) old new h piece (ap count_reported reported)
+    IsPiece call → reported_by call ≡ Some event → TakesEvent failure old.ending old event new →
+    Outcome config words items call new
+call_lined failure config words items before call event old new same h piece reported t =
+    go (text_taken failure config words before (Called call) (event_line event) old new h piece (ap count_reported reported)
     (ap line_reported reported) t)
   where
-    go : Lined config words before (Called answer) new → Outcome config words items answer new
+    go : Lined config words before (Called call) new → Outcome config words items call new
     go (lined k) =
-        further (before ++ Called answer ∷ [])
-        (calls_with before (Called answer) ∙ ap (λ (l : List PortCall). l ++ answer ∷ []) same) k
+        further (before ++ Called call ∷ [])
+        (calls_with before (Called call) ∙ ap (λ (l : List PortCall). l ++ call ∷ []) same) k
     go (filled k) = full before same k
     go (broken k) = failed k
 
-call_timed : (failure : Type 0) (config : Config) (words : List Word) (items : List RecordItem) (answer : PortCall)
-    (event : LogEvent) (due : Option Moment) (old mid new : Written) → IsWholeOf config words items old → IsPiece answer →
-    reported_by answer ≡ Some event → TakesTime failure due old mid → TakesEvent failure mid.ending mid event new →
-    Outcome config words items answer new
-call_timed failure config words items answer event None old mid new h piece reported t k =
-    call_lined failure config words items items answer event mid new refl
+call_timed : (failure : Type 0) (config : Config) (words : List Word) (items : List RecordItem) (call : PortCall)
+    (event : LogEvent) (due : Option Moment) (old mid new : Written) → IsWholeOf config words items old → IsPiece call →
+    reported_by call ≡ Some event → TakesTime failure due old mid → TakesEvent failure mid.ending mid event new →
+    Outcome config words items call new
+call_timed failure config words items call event None old mid new h piece reported t k =
+    call_lined failure config words items items call event mid new refl
     (subst (IsWholeOf config words items) (sym t) h) piece reported k
-call_timed failure config words items answer event (Some due) old mid new h piece reported t k =
+call_timed failure config words items call event (Some due) old mid new h piece reported t k =
     go (text_taken failure config words items (Timed t.0) (line_of_item (Timed t.0)) old mid h tt refl refl t.2)
   where
     same : calls_in (items ++ Timed t.0 ∷ []) ≡ calls_in items
     same = calls_with items (Timed t.0) ∙ append-nil (calls_in items)
 
-    go : Lined config words items (Timed t.0) mid → Outcome config words items answer new
-    go (lined w) = call_lined failure config words items (items ++ Timed t.0 ∷ []) answer event mid new same w piece reported k
+    go : Lined config words items (Timed t.0) mid → Outcome config words items call new
+    go (lined w) = call_lined failure config words items (items ++ Timed t.0 ∷ []) call event mid new same w piece reported k
     go (filled w) =
         let as_it_is : new ≡ mid =
         ended_text failure Full mid new (event_line event) (λ e. absurd (cc)) w.so_far.ending_is k in
@@ -215,29 +215,29 @@ call_timed failure config words items answer event (Some due) old mid new h piec
         let as_it_is : new ≡ mid = ended_text failure Failed mid new (event_line event) (λ e. absurd (cc)) w k in
         failed (ap (λ (x : Written). x.ending) as_it_is ∙ w)
 
-call_unlined : (failure : Type 0) (config : Config) (words : List Word) (items : List RecordItem) (answer : PortCall)
-    (old new : Written) → IsWholeOf config words items old → IsPiece answer → reported_by answer ≡ None →
-    KeepsText failure old new → Outcome config words items answer new
-call_unlined failure config words items answer old new h piece e t = go t
+call_unlined : (failure : Type 0) (config : Config) (words : List Word) (items : List RecordItem) (call : PortCall)
+    (old new : Written) → IsWholeOf config words items old → IsPiece call → reported_by call ≡ None →
+    KeepsText failure old new → Outcome config words items call new
+call_unlined failure config words items call old new h piece e t = go t
   where
-    as_before : record_text config words items ≡ record_text config words (items ++ Called answer ∷ [])
+    as_before : record_text config words items ≡ record_text config words (items ++ Called call ∷ [])
     as_before =
-        let line : line_of_answer answer ≡ [] = ap line_reported e in
+        let line : line_of_answer call ≡ [] = ap line_reported e in
         sym (append-nil (record_text config words items))
-        ∙ ap (λ (l : List ℕ). record_text config words items ++ l) (sym line) ∙ text_with config words items (Called answer)
+        ∙ ap (λ (l : List ℕ). record_text config words items ++ l) (sym line) ∙ text_with config words items (Called call)
 
     same : new.text ≡ Some (record_text config words items) → new.lines ≡ old.lines → new.ending ≡ Whole →
-        Outcome config words items answer new
+        Outcome config words items call new
     same text lines_kept ending =
-        let count : count_of_answer answer ≡ 0 = ap count_reported e in
+        let count : count_of_answer call ≡ 0 = ap count_reported e in
         let lines = h.lines in
         let few = h.so_far.few in
-        let more = count_with items (Called answer) in
-        further (items ++ Called answer ∷ []) (calls_with items (Called answer)) (record {
+        let more = count_with items (Called call) in
+        further (items ++ Called call ∷ []) (calls_with items (Called call)) (record {
           so_far = record {
             text = text ∙ ap Some as_before;
             few = omega arith;
-            fit = fit_with items (Called answer) h.so_far.fit piece;
+            fit = fit_with items (Called call) h.so_far.fit piece;
             ending_is = ending;
           };
           lines = omega (arith, lines_kept);
@@ -245,11 +245,11 @@ call_unlined failure config words items answer old new h piece e t = go t
 
     flushed : new.lines ≡ old.lines →
         ((new.ending ≡ Whole) × (new.unwritten ≡ []) × Keeps old.text new.text) ⊎ ((new.ending ≡ Failed) × failure) →
-        Outcome config words items answer new
+        Outcome config words items call new
     flushed lines (inl w) = same (kept old.text new.text (record_text config words items) h.so_far.text w.2) lines w.0
     flushed lines (inr w) = failed w.0
 
-    go : KeepsText failure old new → Outcome config words items answer new
+    go : KeepsText failure old new → Outcome config words items call new
     go (inl k) =
         same (ap (λ (w : Written). w.text) k ∙ h.so_far.text) (ap (λ (w : Written). w.lines) k)
         (ap (λ (w : Written). w.ending) k ∙ h.so_far.ending_is)
@@ -258,13 +258,13 @@ call_unlined failure config words items answer old new h piece e t = go t
 -- ---- all calls
 
 module _ {P : Type 0} (transition : P → PortCall → P → Type 0) (failed_write : Type 0) where
-  call_taken : (config : Config) (words : List Word) (items : List RecordItem) (answer : PortCall) (old new : Recorded P)
-      (reported : Option LogEvent) → reported_by answer ≡ reported → IsWholeOf config words items old.record_of →
-      IsPiece answer → TakesCall failed_write old reported new → Outcome config words items answer new.record_of
-  call_taken config words items answer old new None e h piece t =
-      call_unlined failed_write config words items answer old.record_of new.record_of h piece e t.0
-  call_taken config words items answer old new (Some event) e h piece t =
-      call_timed failed_write config words items answer event (due_time old.present old.last) old.record_of t.0 new.record_of h piece
+  call_taken : (config : Config) (words : List Word) (items : List RecordItem) (call : PortCall) (old new : Recorded P)
+      (reported : Option LogEvent) → reported_by call ≡ reported → IsWholeOf config words items old.record_of →
+      IsPiece call → TakesCall failed_write old reported new → Outcome config words items call new.record_of
+  call_taken config words items call old new None e h piece t =
+      call_unlined failed_write config words items call old.record_of new.record_of h piece e t.0
+  call_taken config words items call old new (Some event) e h piece t =
+      call_timed failed_write config words items call event (due_time old.present old.last) old.record_of t.0 new.record_of h piece
       e t.1 t.2
 
   call_ended : (ending : RecordEnd) (old new : Recorded P) (reported : Option LogEvent) → ending ≢ Whole →
@@ -293,17 +293,17 @@ module _ {P : Type 0} (transition : P → PortCall → P → Type 0) (failed_wri
           text_fails failed_write Full t.0 new.record_of (event_line event) e
           (λ k. absurd (let no : Full ≡ Failed = sym e ∙ k in cc)) t.2 f
 
-  timed_stays : (ending : RecordEnd) (answers : List PortCall) (old new : Recorded P) → ending ≢ Whole →
-      old.record_of.ending ≡ ending → EvolvesBy (Records transition failed_write) old answers new →
+  timed_stays : (ending : RecordEnd) (trace : List PortCall) (old new : Recorded P) → ending ≢ Whole →
+      old.record_of.ending ≡ ending → EvolvesBy (Records transition failed_write) old trace new →
       new.record_of ≡ old.record_of
   timed_stays ending [] old new other e b = ap (λ (r : Recorded P). r.record_of) b
-  timed_stays ending (answer ∷ answers) old new other e b =
-      let same = call_ended ending old b.0 (reported_by answer) other e b.1.taken in
-      timed_stays ending answers b.0 new other (ap (λ (w : Written). w.ending) same ∙ e) b.2 ∙ same
+  timed_stays ending (call ∷ trace) old new other e b =
+      let same = call_ended ending old b.0 (reported_by call) other e b.1.taken in
+      timed_stays ending trace b.0 new other (ap (λ (w : Written). w.ending) same ∙ e) b.2 ∙ same
 
-  has_items : (config : Config) (words : List Word) (all answers : List PortCall) (items : List RecordItem)
-      (old new : Recorded P) → all ≡ calls_in items ++ answers → IsWholeOf config words items old.record_of →
-      EvolvesBy (Records transition failed_write) old answers new → new.record_of.ending ≢ Failed →
+  has_items : (config : Config) (words : List Word) (all trace : List PortCall) (items : List RecordItem)
+      (old new : Recorded P) → all ≡ calls_in items ++ trace → IsWholeOf config words items old.record_of →
+      EvolvesBy (Records transition failed_write) old trace new → new.record_of.ending ≢ Failed →
       HasItems config words all new.record_of
   has_items config words all [] items old new whole h b other =
       let same : new.record_of ≡ old.record_of = ap (λ (r : Recorded P). r.record_of) b in
@@ -317,23 +317,23 @@ module _ {P : Type 0} (transition : P → PortCall → P → Type 0) (failed_wri
         all = λ _. refl;
         full = λ e. absurd (let no : Whole ≡ Full = sym h.so_far.ending_is ∙ sym (ap (λ (w : Written). w.ending) same) ∙ e in cc);
       }
-  has_items config words all (answer ∷ answers) items old new whole h b other =
-      go (call_taken config words items answer old b.0 (reported_by answer) refl h b.1.piece b.1.taken)
-      (λ more calls k. has_items config words all answers more b.0 new calls k b.2 other)
+  has_items config words all (call ∷ trace) items old new whole h b other =
+      go (call_taken config words items call old b.0 (reported_by call) refl h b.1.piece b.1.taken)
+      (λ more calls k. has_items config words all trace more b.0 new calls k b.2 other)
     where
-      go : Outcome config words items answer b.0.record_of →
-          ((more : List RecordItem) → all ≡ calls_in more ++ answers → IsWholeOf config words more b.0.record_of →
+      go : Outcome config words items call b.0.record_of →
+          ((more : List RecordItem) → all ≡ calls_in more ++ trace → IsWholeOf config words more b.0.record_of →
           HasItems config words all new.record_of) → HasItems config words all new.record_of
       go (further more calls k) later =
-          later more (whole ∙ sym (append_assoc (calls_in items) (answer ∷ []) answers)
-          ∙ ap (λ (l : List PortCall). l ++ answers) (sym calls)) k
+          later more (whole ∙ sym (append_assoc (calls_in items) (call ∷ []) trace)
+          ∙ ap (λ (l : List PortCall). l ++ trace) (sym calls)) k
       go (full more calls k) later =
-          let same = timed_stays Full answers b.0 new (λ e. absurd (cc)) k.so_far.ending_is b.2 in
+          let same = timed_stays Full trace b.0 new (λ e. absurd (cc)) k.so_far.ending_is b.2 in
           let ended : new.record_of.ending ≡ Full = ap (λ (w : Written). w.ending) same ∙ k.so_far.ending_is in
           record {
             items = more;
-            rest = answer ∷ answers;
-            whole = whole ∙ ap (λ (l : List PortCall). l ++ answer ∷ answers) (sym calls);
+            rest = call ∷ trace;
+            whole = whole ∙ ap (λ (l : List PortCall). l ++ call ∷ trace) (sym calls);
             text = ap (λ (w : Written). w.text) same ∙ k.so_far.text;
             few = k.so_far.few;
             fit = k.so_far.fit;
@@ -341,25 +341,25 @@ module _ {P : Type 0} (transition : P → PortCall → P → Type 0) (failed_wri
             full = λ _. k.most;
           }
       go (failed k) later =
-          let same = timed_stays Failed answers b.0 new (λ e. absurd (cc)) k b.2 in
+          let same = timed_stays Failed trace b.0 new (λ e. absurd (cc)) k b.2 in
           absurd (other (ap (λ (w : Written). w.ending) same ∙ k))
 
-  timed_fails : (answers : List PortCall) (old new : Recorded P) → old.record_of.ending ≢ Failed →
-      EvolvesBy (Records transition failed_write) old answers new → new.record_of.ending ≡ Failed → failed_write
+  timed_fails : (trace : List PortCall) (old new : Recorded P) → old.record_of.ending ≢ Failed →
+      EvolvesBy (Records transition failed_write) old trace new → new.record_of.ending ≡ Failed → failed_write
   timed_fails [] old new other b f = absurd (other (sym (ap (λ (r : Recorded P). r.record_of.ending) b) ∙ f))
-  timed_fails (answer ∷ answers) old new other b f =
-      go b.0.record_of.ending refl (λ other. timed_fails answers b.0 new other b.2 f)
+  timed_fails (call ∷ trace) old new other b f =
+      go b.0.record_of.ending refl (λ other. timed_fails trace b.0 new other b.2 f)
     where
       go : (ending : RecordEnd) → b.0.record_of.ending ≡ ending → (b.0.record_of.ending ≢ Failed → failed_write) → failed_write
       go Whole e later = later (λ g. absurd (let no : Whole ≡ Failed = sym e ∙ g in cc))
       go Full e later = later (λ g. absurd (let no : Full ≡ Failed = sym e ∙ g in cc))
-      go Failed e later = call_fails old b.0 (reported_by answer) other b.1.taken e
+      go Failed e later = call_fails old b.0 (reported_by call) other b.1.taken e
 
   pub ports_recorded : PortsAreRecorded transition failed_write
-  ports_recorded config words comments answers old new begun b = (
-    timed_fails answers old new (λ f. absurd (let no : Whole ≡ Failed = sym begun.ending ∙ f in cc)) b,
-    λ other. has_items config words answers answers comments old new
-        (sym (ap (λ (l : List PortCall). l ++ answers) begun.no_call)) (record {
+  ports_recorded config words comments trace old new begun b = (
+    timed_fails trace old new (λ f. absurd (let no : Whole ≡ Failed = sym begun.ending ∙ f in cc)) b,
+    λ other. has_items config words trace trace comments old new
+        (sym (ap (λ (l : List PortCall). l ++ trace) begun.no_call)) (record {
           so_far = record { text = begun.text; few = begun.few; fit = begun.fit; ending_is = begun.ending };
           lines = begun.lines;
         }) b other,

@@ -23,7 +23,7 @@ as_message words end level capped max_depth body Prn lines other h = h
 as_message words end level capped max_depth body (Huh place) lines other h = h
 
 -- the header and the body are the held bytes
-pub held_of_parts : (held header body bytes : List ℕ) → header ≡ take 4 held → body ≡ drop 4 held →
-    bytes ≡ header ++ body → bytes ≡ held
-held_of_parts held header body bytes e f both =
-    both ∙ ap (λ (l : List ℕ). l ++ body) e ∙ ap (λ (l : List ℕ). take 4 held ++ l) f ∙ take-append-drop 4 held
+pub held_of_parts : (frame_bytes header body bytes : List ℕ) → header ≡ take 4 frame_bytes → body ≡ drop 4 frame_bytes →
+    bytes ≡ header ++ body → bytes ≡ frame_bytes
+held_of_parts frame_bytes header body bytes e f both =
+    both ∙ ap (λ (l : List ℕ). l ++ body) e ∙ ap (λ (l : List ℕ). take 4 frame_bytes ++ l) f ∙ take-append-drop 4 frame_bytes

@@ -30,10 +30,10 @@ pub record IsRuled (max_depth : ℕ) (body : List ℕ) : Type 0 where
 
 -- the held message had this fate because of the grammar's verdict on it
 pub record IsRightFate (words : List Word) (config : Config) (side : Side) (deed : Deed) (new : SessionView) : Type 0 where
-  pub ruled : IsRuled config.max_depth (drop 4 (holding new side).held)
-  pub within : IsPlaceIn (drop 4 (holding new side).held) (verdict_by deed)
+  pub ruled : IsRuled config.max_depth (drop 4 (holding new side).frame_bytes)
+  pub within : IsPlaceIn (drop 4 (holding new side).frame_bytes) (verdict_by deed)
   pub verdict : HasVerdict (IsMessageOver (grammar_words words) (side2_of side) (coming new.state side).noted)
-      config.max_depth (tokens_of (drop 4 (holding new side).held)) (verdict_by deed)
+      config.max_depth (tokens_of (drop 4 (holding new side).frame_bytes)) (verdict_by deed)
 
 abbrev pub IsRightlyReported : List Word → Config → Side → Note → SessionView → Type 0
 IsRightlyReported words config side Notes.Nothing new = ⊤
@@ -48,18 +48,18 @@ AreLinesBy words limits announced side Notes.Nothing new lines = lines ≡ []
 AreLinesBy words limits announced side (Notes.Frame head deed) new lines =
     MatchBool (is_dm head.kind)
     (AreMessageLines words (side2_of side) (coming new.state side).noted
-    (capped_from limits.top_level announced (coming new.state side).noted) limits.max_depth (drop 4 (holding new side).held)
+    (capped_from limits.top_level announced (coming new.state side).noted) limits.max_depth (drop 4 (holding new side).frame_bytes)
     (verdict_by deed) lines)
     (lines ≡ [])
 AreLinesBy words limits announced side (Notes.Fault code) new lines =
-    lines ≡ fault_lines new.state.limits.cap code (holding new side).held
+    lines ≡ fault_lines new.state.limits.cap code (holding new side).frame_bytes
 AreLinesBy words limits announced side Notes.Stopped new lines = lines ≡ []
 
 -- the level that the server announced last, from the held frame
 abbrev pub announced_by_held : Side → Note → SessionView → Level → Level
 announced_by_held side Notes.Nothing new level = level
 announced_by_held side (Notes.Frame head deed) new level =
-    if is_dm head.kind then announced_if (verdict_by deed) side (tokens_of (drop 4 (holding new side).held)) level else level
+    if is_dm head.kind then announced_if (verdict_by deed) side (tokens_of (drop 4 (holding new side).frame_bytes)) level else level
 announced_by_held side (Notes.Fault code) new level = level
 announced_by_held side Notes.Stopped new level = level
 

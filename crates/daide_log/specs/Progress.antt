@@ -48,12 +48,12 @@ module _ {Answer : Type 0} (form : ReportForm Answer) where
   GivesInTime before old new given = Gives (IsInTime before) old new given
 
   -- of the bytes read, these lines are reported, and these bytes are still in the block
-  pub record HasRead (before : Option (List ℕ)) (old new : Reader) (held : List ℕ) (number : ℕ) (reported : List form.Entry)
+  pub record HasRead (before : Option (List ℕ)) (old new : Reader) (buffered : List ℕ) (number : ℕ) (reported : List form.Entry)
       (stage : LogState) : Type 0 where
     pub given : List ℕ
     pub gives : GivesInTime before old new given
     pub bytes : List ℕ
-    pub whole : given ≡ bytes ++ held
+    pub whole : given ≡ bytes ++ buffered
     pub reports : ReportsBy form bytes number reported stage
 
   -- all lines are reported, and no byte is left
@@ -150,13 +150,13 @@ module _ {Answer : Type 0} (form : ReportForm Answer) where
   -- ---- the head
 
   abbrev pub IsOpenedBy : Bool → Preamble → ℕ → Option (List ℕ) → Reader → Reader → List ℕ → Type 0
-  IsOpenedBy true head lines before old new held = HasRead before old new held lines [] (state_after_preamble head)
-  IsOpenedBy false head lines before old new held = HasReadAll before old new lines [] (state_after_preamble head)
+  IsOpenedBy true head lines before old new buffered = HasRead before old new buffered lines [] (state_after_preamble head)
+  IsOpenedBy false head lines before old new buffered = HasReadAll before old new lines [] (state_after_preamble head)
 
   -- the head was read, and its last line had a line feed or not
   abbrev pub IsOpened : Opened → Option (List ℕ) → Reader → Reader → List ℕ → Type 0
-  IsOpened opened before old new held =
-      IsOpenedBy opened.is_ended (preamble_of opened.head) opened.lines before old new held × (opened.lines ≤ most_lines)
+  IsOpened opened before old new buffered =
+      IsOpenedBy opened.is_ended (preamble_of opened.head) opened.lines before old new buffered × (opened.lines ≤ most_lines)
 
   -- ---- faults
 
@@ -176,7 +176,7 @@ module _ {Answer : Type 0} (form : ReportForm Answer) where
   IsFaultAfter old new before after Write = (given : List ℕ) × GivesInTime before old new given
   IsFaultAfter old new before after Memory =
       MatchBool form.late ((given : List ℕ) × GivesInTime before old new given)
-      ((opened : Opened) × (held : List ℕ) × IsOpened opened before old new held × Keeps before after)
+      ((opened : Opened) × (buffered : List ℕ) × IsOpened opened before old new buffered × Keeps before after)
 
   -- the report of the log was written, and the log was returned by reads in time
   abbrev pub Reported : Reader → Reader → Option (List ℕ) → Option (List ℕ) → Answer → Type 0
@@ -189,8 +189,8 @@ module _ {Answer : Type 0} (form : ReportForm Answer) where
   -- the lines of the head were read, this many, and nothing of the report was written
   abbrev pub StartsReport : Reader → List ℕ → ℕ → Version → List SessionState → Option (List ℕ) → Reader → Option (List ℕ) →
       Type 0
-  StartsReport now held number version states all origin before =
-      HasRead before origin now held number [] (Playing version states) × Keeps before all
+  StartsReport now buffered number version states all origin before =
+      HasRead before origin now buffered number [] (Playing version states) × Keeps before all
 
   -- a line after the head moves the sessions; its entries are counted, and their text written
   abbrev pub Judges : (form.Context → Type 0) → (form.Context → Type 0) → Version → ℕ → List SessionState → List ℕ →
@@ -202,10 +202,10 @@ module _ {Answer : Type 0} (form : ReportForm Answer) where
       × knows (form.next context reported)
 
   -- between two lines after the head
-  pub record IsPlaying (knows : form.Context → Type 0) (old new : Reader) (held : List ℕ) (number : ℕ) (version : Version)
+  pub record IsPlaying (knows : form.Context → Type 0) (old new : Reader) (buffered : List ℕ) (number : ℕ) (version : Version)
       (sessions : List SessionState) (summary : Summary) (before after : Option (List ℕ)) : Type 0 where
     pub reported : List form.Entry
-    pub has_read : HasRead before old new held number reported (Playing version sessions)
+    pub has_read : HasRead before old new buffered number reported (Playing version sessions)
     pub counts : summary ≡ counted_over form.counted reported nothing_counted
     pub written : Appends before after (texts_of form.text reported)
     pub known : knows (form.next form.fresh reported)
@@ -227,19 +227,19 @@ module _ {Answer : Type 0} (form : ReportForm Answer) where
 
 -- after this number of lines of the head, one more was read
 abbrev pub IsPreambleProgress : {Answer : Type 0} → (List Word → ReportForm Answer) → Option (List ℕ) → Reader → Reader → List ℕ → ℕ → Result PreambleProgress LogFault → Type 0
-IsPreambleProgress form before old new held number (Ok (Steps.More heading)) =
-    ((words : List Word) → HasRead (form words) before old new held (number + 1) [] (Opening (heading_of heading)))
+IsPreambleProgress form before old new buffered number (Ok (Steps.More heading)) =
+    ((words : List Word) → HasRead (form words) before old new buffered (number + 1) [] (Opening (heading_of heading)))
     × (number < most_lines)
-IsPreambleProgress form before old new held number (Ok (Steps.Done opened)) =
-    IsOpened (form (words_of opened.head.words)) opened before old new held
-IsPreambleProgress form before old new held number (Err fault) =
+IsPreambleProgress form before old new buffered number (Ok (Steps.Done opened)) =
+    IsOpened (form (words_of opened.head.words)) opened before old new buffered
+IsPreambleProgress form before old new buffered number (Err fault) =
     (words : List Word) → IsFaultOf (form words) before old new [] fault
 
 -- all lines of the head were read
 abbrev pub AreOpened : {Answer : Type 0} → (List Word → ReportForm Answer) → Option (List ℕ) → Reader → Reader → List ℕ → Result Opened LogFault → Type 0
-AreOpened form before old new held (Ok opened) =
-    IsOpened (form (words_of opened.head.words)) opened before old new held
-AreOpened form before old new held (Err fault) =
+AreOpened form before old new buffered (Ok opened) =
+    IsOpened (form (words_of opened.head.words)) opened before old new buffered
+AreOpened form before old new buffered (Err fault) =
     (words : List Word) → IsFaultOf (form words) before old new [] fault
 
 -- ---- the plain report

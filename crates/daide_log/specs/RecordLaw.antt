@@ -88,10 +88,10 @@ pub record HasBegun (config : Config) (words : List Word) (comments : List Recor
 
 -- The record of these calls: its head, and the lines of items whose calls are a prefix of them, at most as many as a log
 -- may have. A whole record has the lines of all calls, and a full one has the greatest number of lines.
-pub record HasItems (config : Config) (words : List Word) (answers : List PortCall) (written : Written) : Type 0 where
+pub record HasItems (config : Config) (words : List Word) (trace : List PortCall) (written : Written) : Type 0 where
   pub items : List RecordItem
   pub rest : List PortCall
-  pub whole : answers ≡ calls_in items ++ rest
+  pub whole : trace ≡ calls_in items ++ rest
   pub text : written.text ≡ Some (record_text config words items)
   pub few : record_count words items ≤ most_lines
   pub fit : AllByRecursion IsItem items
@@ -102,8 +102,8 @@ pub record HasItems (config : Config) (words : List Word) (answers : List PortCa
 -- is full; or a write of its writer failed.
 abbrev pub PortsAreRecorded : {P : Type 0} → (P → PortCall → P → Type 0) → Type 0 → Type 0
 PortsAreRecorded {P} transition failed =
-    (config : Config) (words : List Word) (comments : List RecordItem) (answers : List PortCall)
+    (config : Config) (words : List Word) (comments : List RecordItem) (trace : List PortCall)
     (old new : Recorded P) → HasBegun config words comments old.record_of →
-    EvolvesBy (Records transition failed) old answers new →
+    EvolvesBy (Records transition failed) old trace new →
     (new.record_of.ending ≡ Failed → failed)
-    × (new.record_of.ending ≢ Failed → HasItems config words answers new.record_of)
+    × (new.record_of.ending ≢ Failed → HasItems config words trace new.record_of)

@@ -53,10 +53,10 @@ ReportsEvents form knew knows source side old events new before after written_be
 -- The cause of a session's move: a side's bytes, that side's end, the timer, which is the bot's, or a stop.
 pub data IsCaused (old : SessionView) (events : List Event) (side : Side) (reported : Note) (new : SessionView) : Type 0 where
   by_bytes : (piece : List ℕ) → events ≡ bytes_come side piece → length piece ≤ room_of old side →
-      (holding old side).held ≡ (coming old.state side).pending → ReceivesBytes old side piece reported new →
+      (holding old side).frame_bytes ≡ (coming old.state side).pending → ReceivesBytes old side piece reported new →
       IsCaused old events side reported new
   by_end : events ≡ Ends side ∷ [] → IsCaused old events side reported new
-  by_timer : events ≡ ImTimerExpired ∷ [] → side ≡ Bot → (holding new side).held ≡ (coming old.state side).pending →
+  by_timer : events ≡ ImTimerExpired ∷ [] → side ≡ Bot → (holding new side).frame_bytes ≡ (coming old.state side).pending →
       IsCaused old events side reported new
   by_stop : events ≡ OperatorStops ∷ [] → reported ≡ Notes.Stopped → IsCaused old events side reported new
 

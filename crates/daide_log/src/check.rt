@@ -48,28 +48,28 @@ use std::alloc::Allocator;
 fn finish<A: Allocator, W: Sink, S: Style>(
     sessions: &[Session<A>],
     cut: Option<u32>,
-    account: &mut ReportBuilder<'_, '_, W, S>,
+    report: &mut ReportBuilder<'_, '_, W, S>,
 ) -> Result<S::Answer, LogFault>
     requires few { length sessions.now ≤ most_sessions }
-    requires ready { All (IsReady account.old.head.limits.config (words_of account.old.head.words)) sessions.now }
+    requires ready { All (IsReady report.old.head.limits.config (words_of report.old.head.words)) sessions.now }
     ensures written { IfOk result (λ answer.
-        IsFinished (S.form (words_of account.old.head.words)) cut account.old.head.version (states_of sessions.now)
-        account.old.summary (all_of W.contents account.old.output) (all_of W.contents account.new.output) answer) }
-    ensures refused { IfErr result (IsLateFault (S.form (words_of account.old.head.words)) (HasFailed W.Fails) S.refused) }
-    ensures same_writer { IsSameWriter account.old.output account.new.output }
+        IsFinished (S.form (words_of report.old.head.words)) cut report.old.head.version (states_of sessions.now)
+        report.old.summary (all_of W.contents report.old.output) (all_of W.contents report.new.output) answer) }
+    ensures refused { IfErr result (IsLateFault (S.form (words_of report.old.head.words)) (HasFailed W.Fails) S.refused) }
+    ensures same_writer { IsSameWriter report.old.output report.new.output }
 {
-    let answer = match account.style.close(
-        &account.head,
+    let answer = match report.style.close(
+        &report.head,
         sessions,
-        account.summary,
+        report.summary,
         cut,
-        &mut account.output,
+        &mut report.output,
     ) {
         Ok(answer) => answer,
         Err(Unreported::Write) => return Err(LogFault::Write),
         Err(Unreported::Memory) => return Err(LogFault::Memory),
     };
-    match put_summary(account.summary, &mut account.output) {
+    match put_summary(report.summary, &mut report.output) {
         Ok(()) => Ok(answer),
         Err(_) => Err(LogFault::Write),
     }
@@ -125,34 +125,34 @@ fn play<A: Allocator, R: LogReader, W: Sink, S: Style>(
     sessions: &mut Vec<Session<A>, A>,
     lines: u32,
     input: &mut Input<'_, R>,
-    account: &mut ReportBuilder<'_, '_, W, S>,
+    report: &mut ReportBuilder<'_, '_, W, S>,
 ) -> Result<S::Answer, LogFault>
     requires some { 1 ≤ length sessions.old.items }
     requires few { length sessions.old.items ≤ most_sessions }
-    requires ready { All (IsReady account.old.head.limits.config (words_of account.old.head.words)) sessions.old.items }
+    requires ready { All (IsReady report.old.head.limits.config (words_of report.old.head.words)) sessions.old.items }
     requires lines { lines ≤ most_lines }
-    requires nothing { account.old.summary ≡ nothing_counted }
-    requires fresh { S.knows (words_of account.old.head.words) account.old.style.now
-        (S.form (words_of account.old.head.words)).fresh }
+    requires nothing { report.old.summary ≡ nothing_counted }
+    requires fresh { S.knows (words_of report.old.head.words) report.old.style.now
+        (S.form (words_of report.old.head.words)).fresh }
     ensures answered { (first : Reader) (before : Option (List ℕ)) →
-        StartsReport (S.form (words_of account.old.head.words)) (R.reader_view input.old.reader.now) input.old.block
-        lines account.old.head.version (states_of sessions.old.items) (all_of W.contents account.old.output) first before →
-        IsAnswered (S.form (words_of account.old.head.words)) first (R.reader_view input.new.reader.now) before
-        (all_of W.contents account.new.output) result }
+        StartsReport (S.form (words_of report.old.head.words)) (R.reader_view input.old.reader.now) input.old.block
+        lines report.old.head.version (states_of sessions.old.items) (all_of W.contents report.old.output) first before →
+        IsAnswered (S.form (words_of report.old.head.words)) first (R.reader_view input.new.reader.now) before
+        (all_of W.contents report.new.output) result }
     ensures cause { IfErr result (HasCause R.Fails W.Fails S.refused) }
     ensures same_reader { IsSameReader input.old input.new }
-    ensures same_writer { IsSameWriter account.old.output account.new.output }
+    ensures same_writer { IsSameWriter report.old.output report.new.output }
 {
     let mut bytes = [0; MOST];
     let mut count = lines;
     'lines: loop {
-        let found = find_line(input, count, &mut account.output)?;
+        let found = find_line(input, count, &mut report.output)?;
         if is_end(found) {
-            return finish(sessions, None, account);
+            return finish(sessions, None, report);
         }
         count += 1;
         let origin = LineContext {
-            version: account.head.version,
+            version: report.head.version,
             line: count,
         };
         let line = input.line(found);
@@ -162,47 +162,47 @@ fn play<A: Allocator, R: LogReader, W: Sink, S: Style>(
             origin.version,
             sessions,
             &mut bytes,
-            account.style,
+            report.style,
         ) {
-            return finish(sessions, Some(count), account);
+            return finish(sessions, Some(count), report);
         }
-        judge_line(sessions, line, origin, &mut bytes, account)?;
+        judge_line(sessions, line, origin, &mut bytes, report)?;
         if is_last(found) {
-            return finish(sessions, None, account);
+            return finish(sessions, None, report);
         }
         pass_line(&mut input.block, found);
     }
 }
 
 /// Reports a log, and leaves the end of the report in the page.
-fn report<A: Memory + Copy, R: LogReader, W: Sink, S: Style>(
+fn report_lines<A: Memory + Copy, R: LogReader, W: Sink, S: Style>(
     alloc: A,
     input: &mut Input<'_, R>,
-    account: &mut ReportBuilder<'_, '_, W, S>,
+    report: &mut ReportBuilder<'_, '_, W, S>,
 ) -> Result<S::Answer, LogFault>
     requires unread { input.old.block ≡ [] }
-    requires nothing { account.old.summary ≡ nothing_counted }
-    requires fresh { (words : List Word) → S.knows words account.old.style.now (S.form words).fresh }
+    requires nothing { report.old.summary ≡ nothing_counted }
+    requires fresh { (words : List Word) → S.knows words report.old.style.now (S.form words).fresh }
     ensures reported { (words : List Word) × IsAnswered (S.form words) (R.reader_view input.old.reader.now)
-        (R.reader_view input.new.reader.now) (all_of W.contents account.old.output) (all_of W.contents account.new.output)
+        (R.reader_view input.new.reader.now) (all_of W.contents report.old.output) (all_of W.contents report.new.output)
         result }
     ensures cause { IfErr result (HasCause R.Fails W.Fails (WasRefused A.Refuses ⊎ S.refused)) }
     ensures same_reader { IsSameReader input.old input.new }
-    ensures same_writer { IsSameWriter account.old.output account.new.output }
+    ensures same_writer { IsSameWriter report.old.output report.new.output }
 {
-    let opened = match read_preamble::<S, R, W>(input, &mut account.refused, &mut account.output) {
+    let opened = match read_preamble::<S, R, W>(input, &mut report.refused, &mut report.output) {
         Ok(opened) => opened,
         Err(fault) => return Err(fault),
     };
-    account.head = opened.head;
+    report.head = opened.head;
     let mut sessions = match open_sessions(alloc, &opened.head) {
         Ok(sessions) => sessions,
         Err(fault) => return Err(fault),
     };
     if !opened.is_ended {
-        return finish(&sessions, None, account);
+        return finish(&sessions, None, report);
     }
-    play(&mut sessions, opened.lines, input, account)
+    play(&mut sessions, opened.lines, input, report)
 }
 
 /// Writes the page at the end of a report, and returns the report's result, or `Write` if the page can't be written.
@@ -230,21 +230,21 @@ fn hand_over_rest<T: Copy, W: Sink>(
 fn report_whole<A: Memory + Copy, R: LogReader, W: Sink, S: Style>(
     alloc: A,
     input: &mut Input<'_, R>,
-    account: &mut ReportBuilder<'_, '_, W, S>,
+    report: &mut ReportBuilder<'_, '_, W, S>,
 ) -> Result<S::Answer, LogFault>
     requires unread { input.old.block ≡ [] }
-    requires nothing { account.old.summary ≡ nothing_counted }
-    requires none_held { account.old.output.page.items ≡ [] }
-    requires fresh { (words : List Word) → S.knows words account.old.style.now (S.form words).fresh }
+    requires nothing { report.old.summary ≡ nothing_counted }
+    requires none_held { report.old.output.page.items ≡ [] }
+    requires fresh { (words : List Word) → S.knows words report.old.style.now (S.form words).fresh }
     ensures reported { (words : List Word) × IsAnswered (S.form words) (R.reader_view input.old.reader.now)
-        (R.reader_view input.new.reader.now) (W.contents account.old.output.writer.now)
-        (W.contents account.new.output.writer.now) result }
+        (R.reader_view input.new.reader.now) (W.contents report.old.output.writer.now)
+        (W.contents report.new.output.writer.now) result }
     ensures cause { IfErr result (HasCause R.Fails W.Fails (WasRefused A.Refuses ⊎ S.refused)) }
     ensures same_reader { IsSameReader input.old input.new }
-    ensures same_writer { IsSameWriter account.old.output account.new.output }
+    ensures same_writer { IsSameWriter report.old.output report.new.output }
 {
-    let answer = report(alloc, input, account);
-    hand_over_rest(answer, &mut account.output)
+    let answer = report_lines(alloc, input, report);
+    hand_over_rest(answer, &mut report.output)
 }
 
 /// Reads a log, and writes its report in a style. After `BadLine`, `refused` says why the line is none.
@@ -266,7 +266,7 @@ pub(crate) fn report_stream<A: Memory + Copy, R: LogReader, W: Sink, S: Style>(
         text: Text::new(),
         reader,
     };
-    let mut account = ReportBuilder {
+    let mut report = ReportBuilder {
         summary: Summary::new(),
         output: Output {
             page: Page::new(),
@@ -276,8 +276,8 @@ pub(crate) fn report_stream<A: Memory + Copy, R: LogReader, W: Sink, S: Style>(
         refused: None,
         style,
     };
-    let answer = report_whole(alloc, &mut input, &mut account);
-    *refused = account.refused;
+    let answer = report_whole(alloc, &mut input, &mut report);
+    *refused = report.refused;
     answer
 }
 

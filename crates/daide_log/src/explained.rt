@@ -257,7 +257,7 @@ fn write_faulty_bytes<B: Growth>(
 
 /// Returns the name of a side's fault, whose frame the session still holds.
 fn fault_name<A: Allocator>(session: &Session<A>, side: Side, code: Code) -> &'static str
-    ensures { result.now ≡ fault_name session.now.state.limits.cap code (holding session.now side).held }
+    ensures { result.now ≡ fault_name session.now.state.limits.cap code (holding session.now side).frame_bytes }
 {
     let is_good = session.head(side).is_some();
     let field = FaultField::of(code, is_good, session.header(side), session.body(side));
@@ -287,7 +287,7 @@ fn write_held<A: Allocator, B: Growth + Copy>(
     ensures text { OnOk result ((lines : List ℕ)
         × AreMessageLines (words_of head.now.words) (side2_of side) (coming session.now.state side).noted
         (spec_capped_from (limits_with head.now.limits.config (words_of head.now.words)).top_level announced
-        (coming session.now.state side).noted) head.now.limits.config.max_depth (drop 4 (holding session.now side).held) (verdict_of_deed deed) lines
+        (coming session.now.state side).noted) head.now.limits.config.max_depth (drop 4 (holding session.now side).frame_bytes) (verdict_of_deed deed) lines
         × (text.new.items ≡ text.old.items ++ lines)) }
     ensures refused { OnErr result (WasRefused B.Refuses) }
 {
@@ -316,7 +316,7 @@ fn write_faulty<A: Allocator, B: Growth + Copy>(
     text: &mut Vec<u8, B>,
 ) -> Result<(), AllocError>
     ensures text { OnOk result (text.new.items ≡ text.old.items
-        ++ fault_lines session.now.state.limits.cap code (holding session.now side).held) }
+        ++ fault_lines session.now.state.limits.cap code (holding session.now side).frame_bytes) }
     ensures refused { OnErr result (WasRefused B.Refuses) }
 {
     let name = fault_name(session, side, code);

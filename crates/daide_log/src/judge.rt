@@ -48,29 +48,29 @@ pub fn judge<A: Allocator, W: Sink, S: Style>(
     reported: ParsedEvent,
     source: ReportKey,
     bytes: &[u8; MOST],
-    account: &mut ReportBuilder<'_, '_, W, S>,
+    report: &mut ReportBuilder<'_, '_, W, S>,
 ) -> Result<(), LogFault>
-    requires ready { IsReady account.old.head.limits.config (words_of account.old.head.words) session.old }
+    requires ready { IsReady report.old.head.limits.config (words_of report.old.head.words) session.old }
     requires within { IsWithinPieceLimit reported }
-    requires room { HasRoom longest_piece account.old.summary }
-    ensures ready { IsReady account.old.head.limits.config (words_of account.old.head.words) session.new }
-    ensures few { IsMoreBy longest_piece account.old.summary account.new.summary }
-    ensures judged { OnOk result (ReportsEvents (S.form (words_of account.old.head.words))
-        (S.knows (words_of account.old.head.words) account.old.style.now)
-        (S.knows (words_of account.old.head.words) account.new.style.now) source
+    requires room { HasRoom longest_piece report.old.summary }
+    ensures ready { IsReady report.old.head.limits.config (words_of report.old.head.words) session.new }
+    ensures few { IsMoreBy longest_piece report.old.summary report.new.summary }
+    ensures judged { OnOk result (ReportsEvents (S.form (words_of report.old.head.words))
+        (S.knows (words_of report.old.head.words) report.old.style.now)
+        (S.knows (words_of report.old.head.words) report.new.style.now) source
         (side_of (event_reported bytes.now reported)) session.old.state
         (events_of_line (event_reported bytes.now reported)) session.new.state
-        account.old.summary account.new.summary (all_of W.contents account.old.output)
-        (all_of W.contents account.new.output)) }
-    ensures refused { IfErr result (IsLateFault (S.form (words_of account.old.head.words)) (HasFailed W.Fails) S.refused) }
-    ensures same_head { account.new.head ≡ account.old.head }
-    ensures same_writer { IsSameWriter account.old.output account.new.output }
+        report.old.summary report.new.summary (all_of W.contents report.old.output)
+        (all_of W.contents report.new.output)) }
+    ensures refused { IfErr result (IsLateFault (S.form (words_of report.old.head.words)) (HasFailed W.Fails) S.refused) }
+    ensures same_head { report.new.head ≡ report.old.head }
+    ensures same_writer { IsSameWriter report.old.output report.new.output }
 {
     if let ParsedEvent::Received(side, count) = reported {
-        return as_fault(feed_all(session, side, &bytes[..count], source, account));
+        return as_fault(feed_all(session, side, &bytes[..count], source, report));
     }
     let (side, moved) = apply(session, reported);
-    as_fault(report_move(session, source, side, moved, account))
+    as_fault(report_move(session, source, side, moved, report))
 }
 
 /// Parses an event line. In version 1 its session is the only one.
@@ -119,24 +119,20 @@ impl LineContext {
 /// Writes what the style reports for the line itself.
 fn quote<W: Sink, S: Style>(
     line: &[u8],
-    account: &mut ReportBuilder<'_, '_, W, S>,
+    report: &mut ReportBuilder<'_, '_, W, S>,
 ) -> Result<(), LogFault>
     ensures text { OnOk result ((text : List ℕ)
-        × IsQuietWith (S.form (words_of account.old.head.words)) line.now text
-        × Appends (all_of W.contents account.old.output) (all_of W.contents account.new.output) text) }
-    ensures refused { IfErr result (IsLateFault (S.form (words_of account.old.head.words)) (HasFailed W.Fails) S.refused) }
-    ensures same_head { account.new.head ≡ account.old.head }
-    ensures same_summary { account.new.summary ≡ account.old.summary }
-    ensures known { (context : (S.form (words_of account.old.head.words)).Context) →
-        S.knows (words_of account.old.head.words) account.old.style.now context →
-        S.knows (words_of account.old.head.words) account.new.style.now context }
-    ensures same_writer { IsSameWriter account.old.output account.new.output }
+        × IsQuietWith (S.form (words_of report.old.head.words)) line.now text
+        × Appends (all_of W.contents report.old.output) (all_of W.contents report.new.output) text) }
+    ensures refused { IfErr result (IsLateFault (S.form (words_of report.old.head.words)) (HasFailed W.Fails) S.refused) }
+    ensures same_head { report.new.head ≡ report.old.head }
+    ensures same_summary { report.new.summary ≡ report.old.summary }
+    ensures known { (context : (S.form (words_of report.old.head.words)).Context) →
+        S.knows (words_of report.old.head.words) report.old.style.now context →
+        S.knows (words_of report.old.head.words) report.new.style.now context }
+    ensures same_writer { IsSameWriter report.old.output report.new.output }
 {
-    as_fault(
-        account
-            .style
-            .quote(&account.head, line, &mut account.output),
-    )
+    as_fault(report.style.quote(&report.head, line, &mut report.output))
 }
 
 /// Judges a line by the session that it names. Decodes a side's bytes into the buffer.
@@ -148,40 +144,40 @@ pub fn judge_line<A: Allocator, W: Sink, S: Style>(
     line: &[u8],
     origin: LineContext,
     bytes: &mut [u8; MOST],
-    account: &mut ReportBuilder<'_, '_, W, S>,
+    report: &mut ReportBuilder<'_, '_, W, S>,
 ) -> Result<(), LogFault>
     requires some { 1 ≤ length sessions.old.items }
     requires few { length sessions.old.items ≤ most_sessions }
-    requires ready { All (IsReady account.old.head.limits.config (words_of account.old.head.words)) sessions.old.items }
-    requires room { HasRoom longest_piece account.old.summary }
+    requires ready { All (IsReady report.old.head.limits.config (words_of report.old.head.words)) sessions.old.items }
+    requires room { HasRoom longest_piece report.old.summary }
     ensures same { length sessions.new.items ≡ length sessions.old.items }
-    ensures ready { All (IsReady account.old.head.limits.config (words_of account.old.head.words)) sessions.new.items }
-    ensures few { IsMoreBy longest_piece account.old.summary account.new.summary }
-    ensures judged { OnOk result (Judges (S.form (words_of account.old.head.words))
-        (S.knows (words_of account.old.head.words) account.old.style.now)
-        (S.knows (words_of account.old.head.words) account.new.style.now) origin.version origin.line
+    ensures ready { All (IsReady report.old.head.limits.config (words_of report.old.head.words)) sessions.new.items }
+    ensures few { IsMoreBy longest_piece report.old.summary report.new.summary }
+    ensures judged { OnOk result (Judges (S.form (words_of report.old.head.words))
+        (S.knows (words_of report.old.head.words) report.old.style.now)
+        (S.knows (words_of report.old.head.words) report.new.style.now) origin.version origin.line
         (states_of sessions.old.items) line.now
-        (states_of sessions.new.items) account.old.summary account.new.summary
-        (all_of W.contents account.old.output)
-        (all_of W.contents account.new.output)) }
-    ensures same_head { account.new.head ≡ account.old.head }
-    ensures refused { IfErr result (λ fault. IsLateFault (S.form (words_of account.old.head.words)) (HasFailed W.Fails) S.refused fault ⊎ ((fault ≡ LogFault.BadLine origin.line)
+        (states_of sessions.new.items) report.old.summary report.new.summary
+        (all_of W.contents report.old.output)
+        (all_of W.contents report.new.output)) }
+    ensures same_head { report.new.head ≡ report.old.head }
+    ensures refused { IfErr result (λ fault. IsLateFault (S.form (words_of report.old.head.words)) (HasFailed W.Fails) S.refused fault ⊎ ((fault ≡ LogFault.BadLine origin.line)
         × (event_in origin.version (length sessions.old.items) line.now ≡ None)
-        × (all_of W.contents account.new.output ≡ all_of W.contents account.old.output))) }
-    ensures same_writer { IsSameWriter account.old.output account.new.output }
+        × (all_of W.contents report.new.output ≡ all_of W.contents report.old.output))) }
+    ensures same_writer { IsSameWriter report.old.output report.new.output }
 {
     let count = sessions.len() as u16;
     match read_reported(origin.version, line, count, bytes) {
         None => {
-            account.refused = Some(line_reason(origin.version, count, line));
+            report.refused = Some(line_reason(origin.version, count, line));
             Err(LogFault::BadLine(origin.line))
         }
-        Some(ParsedMatchEvent::Quiet) => quote(line, account),
+        Some(ParsedMatchEvent::Quiet) => quote(line, report),
         Some(ParsedMatchEvent::Of(session, reported)) => {
-            quote(line, account)?;
+            quote(line, report)?;
             let place = session as usize - 1;
             let source = origin.source(session);
-            judge(&mut sessions[place], reported, source, bytes, account)
+            judge(&mut sessions[place], reported, source, bytes, report)
         }
     }
 }

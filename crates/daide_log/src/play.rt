@@ -38,36 +38,36 @@ fn take_answers<A: Allocator>(session: &mut Session<A>)
 
 /// Counts a side's move, and writes its line and what the style adds to it.
 #[inline(always)]
-fn tell<A: Allocator, W: Sink, S: Style>(
+fn write_move<A: Allocator, W: Sink, S: Style>(
     session: &Session<A>,
     source: ReportKey,
     side: Side,
     reported: Note,
-    account: &mut ReportBuilder<'_, '_, W, S>,
+    report: &mut ReportBuilder<'_, '_, W, S>,
 ) -> Result<(), Unreported>
-    requires under { IsUnder account.old.head.limits.config (words_of account.old.head.words) session.now }
+    requires under { IsUnder report.old.head.limits.config (words_of report.old.head.words) session.now }
     requires made { (old : SessionView) × (events : List Event) × IsMade old events side reported session.now }
-    requires room { HasRoom 1 account.old.summary }
-    ensures few { IsMoreBy 1 account.old.summary account.new.summary }
-    ensures counted { account.new.summary ≡ count_note reported account.old.summary }
-    ensures text { OnOk result (ReportsMove (S.form (words_of account.old.head.words))
-        (S.knows (words_of account.old.head.words) account.old.style.now)
-        (S.knows (words_of account.old.head.words) account.new.style.now) source side reported session.now
-        (λ added. move_line source side reported ++ added) (all_of W.contents account.old.output)
-        (all_of W.contents account.new.output)) }
-    ensures refused { IfErr result (IsCauseIn (S.form (words_of account.old.head.words)) (HasFailed W.Fails) S.refused) }
-    ensures same_head { account.new.head ≡ account.old.head }
-    ensures same_writer { IsSameWriter account.old.output account.new.output }
+    requires room { HasRoom 1 report.old.summary }
+    ensures few { IsMoreBy 1 report.old.summary report.new.summary }
+    ensures counted { report.new.summary ≡ count_note reported report.old.summary }
+    ensures text { OnOk result (ReportsMove (S.form (words_of report.old.head.words))
+        (S.knows (words_of report.old.head.words) report.old.style.now)
+        (S.knows (words_of report.old.head.words) report.new.style.now) source side reported session.now
+        (λ added. move_line source side reported ++ added) (all_of W.contents report.old.output)
+        (all_of W.contents report.new.output)) }
+    ensures refused { IfErr result (IsCauseIn (S.form (words_of report.old.head.words)) (HasFailed W.Fails) S.refused) }
+    ensures same_head { report.new.head ≡ report.old.head }
+    ensures same_writer { IsSameWriter report.old.output report.new.output }
 {
-    account.summary.count(reported);
-    put_move(source, side, reported, &mut account.output)?;
-    account.style.explain(
-        &account.head,
+    report.summary.count(reported);
+    put_move(source, side, reported, &mut report.output)?;
+    report.style.explain(
+        &report.head,
         session,
         source,
         side,
         reported,
-        &mut account.output,
+        &mut report.output,
     )
 }
 
@@ -78,27 +78,27 @@ pub fn report_move<A: Allocator, W: Sink, S: Style>(
     source: ReportKey,
     side: Side,
     reported: Option<Note>,
-    account: &mut ReportBuilder<'_, '_, W, S>,
+    report: &mut ReportBuilder<'_, '_, W, S>,
 ) -> Result<(), Unreported>
-    requires under { IsUnder account.old.head.limits.config (words_of account.old.head.words) session.old }
+    requires under { IsUnder report.old.head.limits.config (words_of report.old.head.words) session.old }
     requires moved { (old : SessionView) × (events : List Event) × Moves old events side reported session.old }
-    requires room { HasRoom 1 account.old.summary }
-    ensures ready { IsReady account.old.head.limits.config (words_of account.old.head.words) session.new }
-    ensures few { IsMoreBy 1 account.old.summary account.new.summary }
+    requires room { HasRoom 1 report.old.summary }
+    ensures ready { IsReady report.old.head.limits.config (words_of report.old.head.words) session.new }
+    ensures few { IsMoreBy 1 report.old.summary report.new.summary }
     ensures reported { OnOk result ((old : SessionView) → (events : List Event) → Moves old events side reported session.old →
-        ReportsEvents (S.form (words_of account.old.head.words)) (S.knows (words_of account.old.head.words) account.old.style.now)
-        (S.knows (words_of account.old.head.words) account.new.style.now) source side old.state events session.new.state
-        account.old.summary account.new.summary (all_of W.contents account.old.output)
-        (all_of W.contents account.new.output)) }
-    ensures refused { IfErr result (IsCauseIn (S.form (words_of account.old.head.words)) (HasFailed W.Fails) S.refused) }
-    ensures same_head { account.new.head ≡ account.old.head }
-    ensures same_writer { IsSameWriter account.old.output account.new.output }
+        ReportsEvents (S.form (words_of report.old.head.words)) (S.knows (words_of report.old.head.words) report.old.style.now)
+        (S.knows (words_of report.old.head.words) report.new.style.now) source side old.state events session.new.state
+        report.old.summary report.new.summary (all_of W.contents report.old.output)
+        (all_of W.contents report.new.output)) }
+    ensures refused { IfErr result (IsCauseIn (S.form (words_of report.old.head.words)) (HasFailed W.Fails) S.refused) }
+    ensures same_head { report.new.head ≡ report.old.head }
+    ensures same_writer { IsSameWriter report.old.output report.new.output }
 {
     let Some(reported) = reported else {
         take_answers(session);
         return Ok(());
     };
-    let written = tell(session, source, side, reported, account);
+    let written = write_move(session, source, side, reported, report);
     take_answers(session);
     written
 }
@@ -112,28 +112,28 @@ fn feed_piece<A: Allocator, W: Sink, S: Style>(
     side: Side,
     piece: &[u8],
     source: ReportKey,
-    account: &mut ReportBuilder<'_, '_, W, S>,
+    report: &mut ReportBuilder<'_, '_, W, S>,
 ) -> Result<(), Unreported>
-    requires ready { IsReady account.old.head.limits.config (words_of account.old.head.words) session.old }
+    requires ready { IsReady report.old.head.limits.config (words_of report.old.head.words) session.old }
     requires few { length piece.now ≤ room_of session.old side }
-    requires tied { (holding session.old side).held ≡ (coming session.old.state side).pending }
-    requires room { HasRoom 1 account.old.summary }
-    ensures ready { IsReady account.old.head.limits.config (words_of account.old.head.words) session.new }
-    ensures few { IsMoreBy 1 account.old.summary account.new.summary }
-    ensures reported { OnOk result (ReportsEvents (S.form (words_of account.old.head.words))
-        (S.knows (words_of account.old.head.words) account.old.style.now)
-        (S.knows (words_of account.old.head.words) account.new.style.now) source side session.old.state
-        (bytes_come side piece.now) session.new.state account.old.summary account.new.summary
-        (all_of W.contents account.old.output) (all_of W.contents account.new.output)) }
-    ensures refused { IfErr result (IsCauseIn (S.form (words_of account.old.head.words)) (HasFailed W.Fails) S.refused) }
-    ensures same_head { account.new.head ≡ account.old.head }
-    ensures same_writer { IsSameWriter account.old.output account.new.output }
+    requires tied { (holding session.old side).frame_bytes ≡ (coming session.old.state side).pending }
+    requires room { HasRoom 1 report.old.summary }
+    ensures ready { IsReady report.old.head.limits.config (words_of report.old.head.words) session.new }
+    ensures few { IsMoreBy 1 report.old.summary report.new.summary }
+    ensures reported { OnOk result (ReportsEvents (S.form (words_of report.old.head.words))
+        (S.knows (words_of report.old.head.words) report.old.style.now)
+        (S.knows (words_of report.old.head.words) report.new.style.now) source side session.old.state
+        (bytes_come side piece.now) session.new.state report.old.summary report.new.summary
+        (all_of W.contents report.old.output) (all_of W.contents report.new.output)) }
+    ensures refused { IfErr result (IsCauseIn (S.form (words_of report.old.head.words)) (HasFailed W.Fails) S.refused) }
+    ensures same_head { report.new.head ≡ report.old.head }
+    ensures same_writer { IsSameWriter report.old.output report.new.output }
 {
     let reported = session.feed(side, piece);
     if let Note::Nothing = reported {
         return Ok(());
     }
-    report_move(session, source, side, Some(reported), account)
+    report_move(session, source, side, Some(reported), report)
 }
 
 /// Feeds a side's bytes in pieces that fit its room, and reports each frame and fault.
@@ -143,26 +143,26 @@ fn feed_pieces<A: Allocator, W: Sink, S: Style>(
     side: Side,
     bytes: &[u8],
     source: ReportKey,
-    account: &mut ReportBuilder<'_, '_, W, S>,
+    report: &mut ReportBuilder<'_, '_, W, S>,
 ) -> Result<(), Unreported>
-    requires ready { IsReady account.old.head.limits.config (words_of account.old.head.words) session.old }
-    requires room { HasRoom (length bytes.now) account.old.summary }
-    ensures ready { IsReady account.old.head.limits.config (words_of account.old.head.words) session.new }
-    ensures few { IsMoreBy (length bytes.now) account.old.summary account.new.summary }
-    ensures reported { OnOk result (ReportsEvents (S.form (words_of account.old.head.words))
-        (S.knows (words_of account.old.head.words) account.old.style.now)
-        (S.knows (words_of account.old.head.words) account.new.style.now) source side session.old.state
+    requires ready { IsReady report.old.head.limits.config (words_of report.old.head.words) session.old }
+    requires room { HasRoom (length bytes.now) report.old.summary }
+    ensures ready { IsReady report.old.head.limits.config (words_of report.old.head.words) session.new }
+    ensures few { IsMoreBy (length bytes.now) report.old.summary report.new.summary }
+    ensures reported { OnOk result (ReportsEvents (S.form (words_of report.old.head.words))
+        (S.knows (words_of report.old.head.words) report.old.style.now)
+        (S.knows (words_of report.old.head.words) report.new.style.now) source side session.old.state
         (bytes_come side bytes.now) session.new.state
-        account.old.summary account.new.summary (all_of W.contents account.old.output)
-        (all_of W.contents account.new.output)) }
-    ensures refused { IfErr result (IsCauseIn (S.form (words_of account.old.head.words)) (HasFailed W.Fails) S.refused) }
-    ensures same_head { account.new.head ≡ account.old.head }
-    ensures same_writer { IsSameWriter account.old.output account.new.output }
+        report.old.summary report.new.summary (all_of W.contents report.old.output)
+        (all_of W.contents report.new.output)) }
+    ensures refused { IfErr result (IsCauseIn (S.form (words_of report.old.head.words)) (HasFailed W.Fails) S.refused) }
+    ensures same_head { report.new.head ≡ report.old.head }
+    ensures same_writer { IsSameWriter report.old.output report.new.output }
 {
     let mut rest = bytes;
     while !rest.is_empty() && !session.is_over() {
         let (piece, more) = rest.split_at(rest.len().min(session.room(side)));
-        feed_piece(session, side, piece, source, account)?;
+        feed_piece(session, side, piece, source, report)?;
         rest = more;
     }
     Ok(())
@@ -176,25 +176,25 @@ pub fn feed_all<A: Allocator, W: Sink, S: Style>(
     side: Side,
     bytes: &[u8],
     source: ReportKey,
-    account: &mut ReportBuilder<'_, '_, W, S>,
+    report: &mut ReportBuilder<'_, '_, W, S>,
 ) -> Result<(), Unreported>
-    requires ready { IsReady account.old.head.limits.config (words_of account.old.head.words) session.old }
-    requires room { HasRoom (length bytes.now) account.old.summary }
-    ensures ready { IsReady account.old.head.limits.config (words_of account.old.head.words) session.new }
-    ensures few { IsMoreBy (length bytes.now) account.old.summary account.new.summary }
-    ensures reported { OnOk result (ReportsEvents (S.form (words_of account.old.head.words))
-        (S.knows (words_of account.old.head.words) account.old.style.now)
-        (S.knows (words_of account.old.head.words) account.new.style.now) source side session.old.state
+    requires ready { IsReady report.old.head.limits.config (words_of report.old.head.words) session.old }
+    requires room { HasRoom (length bytes.now) report.old.summary }
+    ensures ready { IsReady report.old.head.limits.config (words_of report.old.head.words) session.new }
+    ensures few { IsMoreBy (length bytes.now) report.old.summary report.new.summary }
+    ensures reported { OnOk result (ReportsEvents (S.form (words_of report.old.head.words))
+        (S.knows (words_of report.old.head.words) report.old.style.now)
+        (S.knows (words_of report.old.head.words) report.new.style.now) source side session.old.state
         (bytes_come side bytes.now) session.new.state
-        account.old.summary account.new.summary (all_of W.contents account.old.output)
-        (all_of W.contents account.new.output)) }
-    ensures refused { IfErr result (IsCauseIn (S.form (words_of account.old.head.words)) (HasFailed W.Fails) S.refused) }
-    ensures same_head { account.new.head ≡ account.old.head }
-    ensures same_writer { IsSameWriter account.old.output account.new.output }
+        report.old.summary report.new.summary (all_of W.contents report.old.output)
+        (all_of W.contents report.new.output)) }
+    ensures refused { IfErr result (IsCauseIn (S.form (words_of report.old.head.words)) (HasFailed W.Fails) S.refused) }
+    ensures same_head { report.new.head ≡ report.old.head }
+    ensures same_writer { IsSameWriter report.old.output report.new.output }
 {
     match side {
-        Side::Bot => feed_pieces(session, Side::Bot, bytes, source, account),
-        Side::Server => feed_pieces(session, Side::Server, bytes, source, account),
+        Side::Bot => feed_pieces(session, Side::Bot, bytes, source, report),
+        Side::Server => feed_pieces(session, Side::Server, bytes, source, report),
     }
 }
 

@@ -70,7 +70,7 @@ pub enum RecordEnd {
 #[derive(Drop)]
 pub struct Record<W: Sink + Drop> {
     writer: W,
-    held: Box<Page>,
+    page: Box<Page>,
     lines: u32,
     ending: RecordEnd,
 }
@@ -82,8 +82,8 @@ impl<W: Sink + Drop> Model for Record<W> {
     ghost Value = { Written };
 
     ghost view = { λ r. record {
-      text = append_known (W.contents r.writer) r.held.value.items;
-      unwritten = r.held.value.items;
+      text = append_known (W.contents r.writer) r.page.value.items;
+      unwritten = r.page.value.items;
       lines = r.lines;
       ending = r.ending;
     } };
@@ -106,31 +106,31 @@ fn ending_after(handed_over: io::Result<()>, lines: u32) -> RecordEnd
 
 /// Makes room for one more line in the page, after `lines` lines in all. Writes the page if the line might not fit, or
 /// if the record is full. Returns how the record ends, or would end now.
-fn make_room<W: Sink>(held: &mut Page, lines: u32, writer: &mut W) -> RecordEnd
-    ensures kept { result ≢ RecordEnd.Failed → Keeps (append_known (W.contents writer.old) held.old.items)
-        (append_known (W.contents writer.new) held.new.items) }
-    ensures whole { result ≡ RecordEnd.Whole → (lines < most_lines) × (length held.new.items ≤ most_held) }
+fn make_room<W: Sink>(page: &mut Page, lines: u32, writer: &mut W) -> RecordEnd
+    ensures kept { result ≢ RecordEnd.Failed → Keeps (append_known (W.contents writer.old) page.old.items)
+        (append_known (W.contents writer.new) page.new.items) }
+    ensures whole { result ≡ RecordEnd.Whole → (lines < most_lines) × (length page.new.items ≤ most_held) }
     ensures full { result ≡ RecordEnd.Full → most_lines ≤ lines }
     ensures failed { result ≡ RecordEnd.Failed → W.Fails writer.old writer.new }
 {
-    if lines < MOST_LINES && held.len() <= FRONT {
+    if lines < MOST_LINES && page.len() <= FRONT {
         return RecordEnd::Whole;
     }
-    ending_after(hand_over(held, writer), lines)
+    ending_after(hand_over(page, writer), lines)
 }
 
 /// Writes the page of a record that did not fail, and returns how the record ended. After a failed write it writes
 /// nothing.
-fn hand_over_rest<W: Sink>(ending: RecordEnd, held: &mut Page, writer: &mut W) -> RecordEnd
+fn hand_over_rest<W: Sink>(ending: RecordEnd, page: &mut Page, writer: &mut W) -> RecordEnd
     ensures failed { ending ≡ RecordEnd.Failed → (result ≡ RecordEnd.Failed) × (writer.new ≡ writer.old) }
     ensures whole { result ≢ RecordEnd.Failed → (result ≡ ending)
-        × Keeps (append_known (W.contents writer.old) held.old.items) (W.contents writer.new) }
+        × Keeps (append_known (W.contents writer.old) page.old.items) (W.contents writer.new) }
     ensures fails { ending ≢ RecordEnd.Failed → result ≡ RecordEnd.Failed → W.Fails writer.old writer.new }
 {
     if ending == RecordEnd::Failed {
         return ending;
     }
-    match hand_over(held, writer) {
+    match hand_over(page, writer) {
         Ok(()) => ending,
         Err(_) => RecordEnd::Failed,
     }
@@ -147,12 +147,12 @@ impl<W: Sink + Drop> Record<W> {
           ending = RecordEnd.Whole;
         } }
     {
-        let mut held = page;
-        held.clear();
-        put_head(&config, &words, &mut held);
+        let mut page = page;
+        page.clear();
+        put_head(&config, &words, &mut page);
         Record {
             writer,
-            held,
+            page,
             lines: 2 + words.names().len() as u32,
             ending: RecordEnd::Whole,
         }
@@ -173,9 +173,9 @@ impl<W: Sink + Drop> Record<W> {
         if event.is_silent() || self.ending != RecordEnd::Whole {
             return;
         }
-        self.ending = make_room(&mut self.held, self.lines, &mut self.writer);
+        self.ending = make_room(&mut self.page, self.lines, &mut self.writer);
         if self.ending == RecordEnd::Whole {
-            put_event(event, &mut self.held);
+            put_event(event, &mut self.page);
             self.lines += 1;
         }
     }
@@ -187,9 +187,9 @@ impl<W: Sink + Drop> Record<W> {
         if self.ending != RecordEnd::Whole {
             return;
         }
-        self.ending = make_room(&mut self.held, self.lines, &mut self.writer);
+        self.ending = make_room(&mut self.page, self.lines, &mut self.writer);
         if self.ending == RecordEnd::Whole {
-            put_comment(comment, &mut self.held);
+            put_comment(comment, &mut self.page);
             self.lines += 1;
         }
     }
@@ -203,7 +203,7 @@ impl<W: Sink + Drop> Record<W> {
         if self.ending != RecordEnd::Whole {
             return;
         }
-        if let Err(_) = hand_over(&mut self.held, &mut self.writer) {
+        if let Err(_) = hand_over(&mut self.page, &mut self.writer) {
             self.ending = RecordEnd::Failed;
         }
     }
@@ -223,11 +223,11 @@ impl<W: Sink + Drop> Record<W> {
     {
         let Record {
             mut writer,
-            mut held,
+            mut page,
             lines: _,
             ending,
         } = self;
-        let ended = hand_over_rest(ending, &mut held, &mut writer);
+        let ended = hand_over_rest(ending, &mut page, &mut writer);
         (writer, ended)
     }
 }

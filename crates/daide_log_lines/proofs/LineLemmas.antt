@@ -138,35 +138,35 @@ gives_read P old now new a b written h r k p =
 
 -- After `count` lines, the text was taken from the block and from what was read since, and this is the block. Each turn
 -- but the first took a byte.
-pub record HasScanned (all : Option (List ℕ)) (old : Reader) (held : List ℕ) (count : ℕ) (now : Reader)
+pub record HasScanned (all : Option (List ℕ)) (old : Reader) (buffered : List ℕ) (count : ℕ) (now : Reader)
     (text block : List ℕ) (turn : ℕ) : Type 0 where
   pub fewer : count < most_lines
   pub given : List ℕ
-  pub gives : Gives (IsInLine all held count) old now given
-  pub whole : held ++ given ≡ text ++ block
+  pub gives : Gives (IsInLine all buffered count) old now given
+  pub whole : buffered ++ given ≡ text ++ block
   pub unbroken : IsUnbroken text
   pub short : length text ≤ longest_line
   pub turns : turn ≤ length text + 1
   pub some : 0 < turn → 0 < length block
 
 -- and the block is empty
-pub record HasEmptied (all : Option (List ℕ)) (old : Reader) (held : List ℕ) (count : ℕ) (now : Reader) (text : List ℕ)
+pub record HasEmptied (all : Option (List ℕ)) (old : Reader) (buffered : List ℕ) (count : ℕ) (now : Reader) (text : List ℕ)
     (turn : ℕ) : Type 0 where
   pub fewer : count < most_lines
   pub given : List ℕ
-  pub gives : Gives (IsInLine all held count) old now given
-  pub whole : held ++ given ≡ text
+  pub gives : Gives (IsInLine all buffered count) old now given
+  pub whole : buffered ++ given ≡ text
   pub unbroken : IsUnbroken text
   pub short : length text ≤ longest_line
   pub turns : turn ≤ length text
 
-pub emptied : (all : Option (List ℕ)) (old : Reader) (held : List ℕ) (count : ℕ) (now : Reader)
-    (text block after rest : List ℕ) (turn : ℕ) → HasScanned all old held count now text block turn →
+pub emptied : (all : Option (List ℕ)) (old : Reader) (buffered : List ℕ) (count : ℕ) (now : Reader)
+    (text block after rest : List ℕ) (turn : ℕ) → HasScanned all old buffered count now text block turn →
     Scans block text false rest after → (length after ≡ 2101 → ⊥) → length after ≤ 2101 →
-    HasEmptied all old held count now after turn
-emptied all old held count now text block after rest turn h s short fits = go s.4
+    HasEmptied all old buffered count now after turn
+emptied all old buffered count now text block after rest turn h s short fits = go s.4
   where
-    go : (rest ≡ []) ⊎ (longest_line < length after) → HasEmptied all old held count now after turn
+    go : (rest ≡ []) ⊎ (longest_line < length after) → HasEmptied all old buffered count now after turn
     go (inr long) = absurd (short (omega arith))
     go (inl none) =
         let whole : block ≡ s.0 = s.1 ∙ ap (λ (l : List ℕ). s.0 ++ l) none ∙ append-nil s.0 in
@@ -189,38 +189,38 @@ emptied all old held count now text block after rest turn h s short fits = go s.
         later zero t k e f = omega arith
         later (suc n) t k e f = let b = k (omega arith) in omega arith
 
-pub begun : (all : Option (List ℕ)) (old : Reader) (held : List ℕ) (count : ℕ) (text : List ℕ) → count < most_lines →
-    text ≡ [] → HasScanned all old held count old text held 0
-begun all old held count [] fewer none = record {
+pub begun : (all : Option (List ℕ)) (old : Reader) (buffered : List ℕ) (count : ℕ) (text : List ℕ) → count < most_lines →
+    text ≡ [] → HasScanned all old buffered count old text buffered 0
+begun all old buffered count [] fewer none = record {
   fewer = fewer;
   given = [];
-  gives = gives_none (IsInLine all held count) old;
-  whole = append-nil held;
+  gives = gives_none (IsInLine all buffered count) old;
+  whole = append-nil buffered;
   unbroken = tt;
   short = omega arith;
   turns = omega arith;
   some = λ started. absurd (omega (arith, started));
 }
-begun all old held count (x ∷ text) fewer none = absurd (cc)
+begun all old buffered count (x ∷ text) fewer none = absurd (cc)
 
 -- a read is made within the line
-in_line : (all : Option (List ℕ)) (old : Reader) (held : List ℕ) (count : ℕ) (now : Reader) (text : List ℕ) (turn : ℕ)
-    (h : HasEmptied all old held count now text turn) (written : Option (List ℕ)) → Keeps all written →
-    IsInLine all held count h.given written
-in_line all old held count now text turn h written k =
+in_line : (all : Option (List ℕ)) (old : Reader) (buffered : List ℕ) (count : ℕ) (now : Reader) (text : List ℕ) (turn : ℕ)
+    (h : HasEmptied all old buffered count now text turn) (written : Option (List ℕ)) → Keeps all written →
+    IsInLine all buffered count h.given written
+in_line all old buffered count now text turn h written k =
     (subst (MayBeginLine count) (sym h.whole) (h.unbroken, h.short, λ some. h.fewer), k)
 
-pub scanned_on : (all : Option (List ℕ)) (old : Reader) (held : List ℕ) (count : ℕ) (now : Reader) (text : List ℕ)
-    (turn : ℕ) (new : Reader) (block : List ℕ) → HasEmptied all old held count now text turn →
-    ReadsOn all now new block (Ok true) → HasScanned all old held count new text block (turn + 1)
-scanned_on all old held count now text turn new block h r =
+pub scanned_on : (all : Option (List ℕ)) (old : Reader) (buffered : List ℕ) (count : ℕ) (now : Reader) (text : List ℕ)
+    (turn : ℕ) (new : Reader) (block : List ℕ) → HasEmptied all old buffered count now text turn →
+    ReadsOn all now new block (Ok true) → HasScanned all old buffered count new text block (turn + 1)
+scanned_on all old buffered count now text turn new block h r =
     let turns = h.turns in
     record {
       fewer = h.fewer;
       given = h.given ++ block;
-      gives = gives_read (IsInLine all held count) old now new h.given block r.0 h.gives r.1.0 r.1.1
-          (in_line all old held count now text turn h r.0 r.2);
-      whole = sym (append_assoc held h.given block) ∙ ap (λ (l : List ℕ). l ++ block) h.whole;
+      gives = gives_read (IsInLine all buffered count) old now new h.given block r.0 h.gives r.1.0 r.1.1
+          (in_line all old buffered count now text turn h r.0 r.2);
+      whole = sym (append_assoc buffered h.given block) ∙ ap (λ (l : List ℕ). l ++ block) h.whole;
       unbroken = h.unbroken;
       short = h.short;
       turns = omega arith;
@@ -228,10 +228,10 @@ scanned_on all old held count now text turn new block h r =
     }
 
 -- the line feed was found
-pub found_line : (all : Option (List ℕ)) (old : Reader) (held : List ℕ) (count : ℕ) (now : Reader)
-    (text block after rest line : List ℕ) (turn : ℕ) → HasScanned all old held count now text block turn →
-    Scans block text true rest after → line ≡ without_cr after → IsFound all old held count (Ok Line) line now rest
-found_line all old held count now text block after rest line turn h s same = (
+pub found_line : (all : Option (List ℕ)) (old : Reader) (buffered : List ℕ) (count : ℕ) (now : Reader)
+    (text block after rest line : List ℕ) (turn : ℕ) → HasScanned all old buffered count now text block turn →
+    Scans block text true rest after → line ≡ without_cr after → IsFound all old buffered count (Ok Line) line now rest
+found_line all old buffered count now text block after rest line turn h s same = (
   after,
   (
     h.given,
@@ -247,11 +247,11 @@ found_line all old held count now text block after rest line turn h s same = (
 )
 
 -- the line has one byte too many
-pub found_too_long : (all : Option (List ℕ)) (old : Reader) (held : List ℕ) (count : ℕ) (now : Reader)
-    (text block after rest : List ℕ) (turn : ℕ) → HasScanned all old held count now text block turn →
+pub found_too_long : (all : Option (List ℕ)) (old : Reader) (buffered : List ℕ) (count : ℕ) (now : Reader)
+    (text block after rest : List ℕ) (turn : ℕ) → HasScanned all old buffered count now text block turn →
     Scans block text false rest after → length after ≡ 2101 →
-    IsFound all old held count (Err (Faults.LineTooLong (count + 1))) after now rest
-found_too_long all old held count now text block after rest turn h s long = (
+    IsFound all old buffered count (Err (Faults.LineTooLong (count + 1))) after now rest
+found_too_long all old buffered count now text block after rest turn h s long = (
   after,
   (
     h.given,
@@ -267,23 +267,23 @@ found_too_long all old held count now text block after rest turn h s long = (
 )
 
 -- a read returned no byte
-none_given : (all : Option (List ℕ)) (old : Reader) (held : List ℕ) (count : ℕ) (now : Reader) (text : List ℕ) (turn : ℕ)
-    (new : Reader) (h : HasEmptied all old held count now text turn) (written : Option (List ℕ)) →
+none_given : (all : Option (List ℕ)) (old : Reader) (buffered : List ℕ) (count : ℕ) (now : Reader) (text : List ℕ) (turn : ℕ)
+    (new : Reader) (h : HasEmptied all old buffered count now text turn) (written : Option (List ℕ)) →
     AddsReads now.reads (record { came = []; written = written } ∷ []) new.reads →
-    Consumes now.remaining new.remaining [] → Keeps all written → Gives (IsInLine all held count) old new h.given
-none_given all old held count now text turn new h written r k kept =
-    subst (Gives (IsInLine all held count) old new) (append-nil h.given)
-    (gives_read (IsInLine all held count) old now new h.given [] written h.gives r k
-    (in_line all old held count now text turn h written kept))
+    Consumes now.remaining new.remaining [] → Keeps all written → Gives (IsInLine all buffered count) old new h.given
+none_given all old buffered count now text turn new h written r k kept =
+    subst (Gives (IsInLine all buffered count) old new) (append-nil h.given)
+    (gives_read (IsInLine all buffered count) old now new h.given [] written h.gives r k
+    (in_line all old buffered count now text turn h written kept))
 
 -- the log ended after a line without a line feed
-pub found_last : (all : Option (List ℕ)) (old : Reader) (held : List ℕ) (count : ℕ) (now : Reader) (text : List ℕ)
-    (turn : ℕ) (new : Reader) (block : List ℕ) → HasEmptied all old held count now text turn →
-    ReadsOn all now new block (Ok false) → 0 < length text → IsFound all old held count (Ok Last) text new block
-found_last all old held count now text turn new block h r some = (
+pub found_last : (all : Option (List ℕ)) (old : Reader) (buffered : List ℕ) (count : ℕ) (now : Reader) (text : List ℕ)
+    (turn : ℕ) (new : Reader) (block : List ℕ) → HasEmptied all old buffered count now text turn →
+    ReadsOn all now new block (Ok false) → 0 < length text → IsFound all old buffered count (Ok Last) text new block
+found_last all old buffered count now text turn new block h r some = (
   (
     h.given,
-    none_given all old held count now text turn new h r.0 r.1.0 r.1.1 r.2,
+    none_given all old buffered count now text turn new h r.0 r.1.0 r.1.1 r.2,
     h.whole ∙ sym (append-nil text) ∙ ap (λ (l : List ℕ). text ++ l) (sym r.1.2),
   ),
   r.1.2,
@@ -299,33 +299,33 @@ none_left [] e = refl
 none_left (x ∷ l) e = let none : length (x ∷ l) ≡ 0 = eqb-true (length (x ∷ l)) 0 e in absurd (omega arith)
 
 -- the log ended after a line feed
-pub found_end : (all : Option (List ℕ)) (old : Reader) (held : List ℕ) (count : ℕ) (now : Reader) (text : List ℕ)
-    (turn : ℕ) (new : Reader) (block : List ℕ) → HasEmptied all old held count now text turn →
-    ReadsOn all now new block (Ok false) → (length text == 0) ≡ true → IsFound all old held count (Ok End) text new block
-found_end all old held count now text turn new block h r none = (
+pub found_end : (all : Option (List ℕ)) (old : Reader) (buffered : List ℕ) (count : ℕ) (now : Reader) (text : List ℕ)
+    (turn : ℕ) (new : Reader) (block : List ℕ) → HasEmptied all old buffered count now text turn →
+    ReadsOn all now new block (Ok false) → (length text == 0) ≡ true → IsFound all old buffered count (Ok End) text new block
+found_end all old buffered count now text turn new block h r none = (
   (
     h.given,
-    none_given all old held count now text turn new h r.0 r.1.0 r.1.1 r.2,
+    none_given all old buffered count now text turn new h r.0 r.1.0 r.1.1 r.2,
     h.whole ∙ none_left text none ∙ sym r.1.2,
   ),
   r.1.2,
   r.1.3,
 )
 
-pub failed_read : (all : Option (List ℕ)) (old : Reader) (held : List ℕ) (count : ℕ) (now : Reader) (text : List ℕ)
-    (turn : ℕ) (new : Reader) (block : List ℕ) (fault : LogFault) → HasEmptied all old held count now text turn →
-    ReadsOn all now new block (Err fault) → IsFound all old held count (Err fault) text new block
-failed_read all old held count now text turn new block (Faults.BadLine n) h r = absurd r.1
-failed_read all old held count now text turn new block (Faults.LineTooLong n) h r = absurd r.1
-failed_read all old held count now text turn new block Faults.TooManyLines h r = absurd r.1
-failed_read all old held count now text turn new block Faults.Write h r =
-    (h.given, subst (λ (x : Reader). Gives (IsInLine all held count) old x h.given) (sym r.1) h.gives)
-failed_read all old held count now text turn new block Faults.Memory h r = absurd r.1
-failed_read all old held count now text turn new block Faults.Read h r = (
+pub failed_read : (all : Option (List ℕ)) (old : Reader) (buffered : List ℕ) (count : ℕ) (now : Reader) (text : List ℕ)
+    (turn : ℕ) (new : Reader) (block : List ℕ) (fault : LogFault) → HasEmptied all old buffered count now text turn →
+    ReadsOn all now new block (Err fault) → IsFound all old buffered count (Err fault) text new block
+failed_read all old buffered count now text turn new block (Faults.BadLine n) h r = absurd r.1
+failed_read all old buffered count now text turn new block (Faults.LineTooLong n) h r = absurd r.1
+failed_read all old buffered count now text turn new block Faults.TooManyLines h r = absurd r.1
+failed_read all old buffered count now text turn new block Faults.Write h r =
+    (h.given, subst (λ (x : Reader). Gives (IsInLine all buffered count) old x h.given) (sym r.1) h.gives)
+failed_read all old buffered count now text turn new block Faults.Memory h r = absurd r.1
+failed_read all old buffered count now text turn new block Faults.Read h r = (
   text,
   (
     h.given,
-    none_given all old held count now text turn new h r.0 r.1.0 (keeps_consumes now.remaining new.remaining r.1.1) r.2,
+    none_given all old buffered count now text turn new h r.0 r.1.0 (keeps_consumes now.remaining new.remaining r.1.1) r.2,
     h.whole ∙ sym (append-nil text) ∙ ap (λ (l : List ℕ). text ++ l) (sym r.1.2),
   ),
   r.1.2,
@@ -343,14 +343,14 @@ found_there (Ok true) = Err Faults.TooManyLines
 found_there (Ok false) = Ok End
 found_there (Err fault) = Err fault
 
-pub found_behind_all : (all : Option (List ℕ)) (old : Reader) (held : List ℕ) (count : ℕ) (text : List ℕ) (new : Reader)
-    (rest : List ℕ) (more : Result Bool LogFault) → count ≡ most_lines → HasMore all old held more new rest →
-    IsFound all old held count (found_there more) text new rest
-found_behind_all all old held count text new rest more e h =
-    subst (λ (n : ℕ). IsFound all old held n (found_there more) text new rest) (sym e) (go more h)
+pub found_behind_all : (all : Option (List ℕ)) (old : Reader) (buffered : List ℕ) (count : ℕ) (text : List ℕ) (new : Reader)
+    (rest : List ℕ) (more : Result Bool LogFault) → count ≡ most_lines → HasMore all old buffered more new rest →
+    IsFound all old buffered count (found_there more) text new rest
+found_behind_all all old buffered count text new rest more e h =
+    subst (λ (n : ℕ). IsFound all old buffered n (found_there more) text new rest) (sym e) (go more h)
   where
-    go : (more : Result Bool LogFault) → HasMore all old held more new rest →
-        IsFound all old held most_lines (found_there more) text new rest
+    go : (more : Result Bool LogFault) → HasMore all old buffered more new rest →
+        IsFound all old buffered most_lines (found_there more) text new rest
     go (Ok true) k = (k.0, k.1, refl, k.2)
     go (Ok false) k = k
     go (Err (Faults.BadLine n)) k = absurd k
@@ -358,42 +358,42 @@ found_behind_all all old held count text new rest more e h =
     go (Err Faults.TooManyLines) k = absurd k
     go (Err Faults.Write) k = (
       [],
-      subst (λ (x : Reader). Gives (IsInLine all held most_lines) old x []) (sym k)
-          (gives_none (IsInLine all held most_lines) old),
+      subst (λ (x : Reader). Gives (IsInLine all buffered most_lines) old x []) (sym k)
+          (gives_none (IsInLine all buffered most_lines) old),
     )
     go (Err Faults.Memory) k = absurd k
     go (Err Faults.Read) k = ([], k.0, k.1, no_line most_lines)
 
 -- one read while the block was empty
-read_first : (all : Option (List ℕ)) (old new : Reader) (held block : List ℕ) (written : Option (List ℕ)) → held ≡ [] →
+read_first : (all : Option (List ℕ)) (old new : Reader) (buffered block : List ℕ) (written : Option (List ℕ)) → buffered ≡ [] →
     AddsReads old.reads (record { came = block; written = written } ∷ []) new.reads →
-    Consumes old.remaining new.remaining block → Keeps all written → Gives (IsInLine all held most_lines) old new block
-read_first all old new held block written e r k kept =
-    gives_read (IsInLine all held most_lines) old old new [] block written (gives_none (IsInLine all held most_lines) old)
+    Consumes old.remaining new.remaining block → Keeps all written → Gives (IsInLine all buffered most_lines) old new block
+read_first all old new buffered block written e r k kept =
+    gives_read (IsInLine all buffered most_lines) old old new [] block written (gives_none (IsInLine all buffered most_lines) old)
     r k (subst (λ (l : List ℕ). IsInLine all l most_lines [] written) (sym e) (no_line most_lines, kept))
 
 -- another byte is looked for while the block is empty
-pub more_read : (all : Option (List ℕ)) (old new : Reader) (held block : List ℕ) (more : Result Bool LogFault) → held ≡ [] →
-    ReadsOn all old new block more → HasMore all old held more new block
-more_read all old new held block (Ok true) e r = (
-  (block, read_first all old new held block r.0 e r.1.0 r.1.1 r.2, ap (λ (l : List ℕ). l ++ block) e),
+pub more_read : (all : Option (List ℕ)) (old new : Reader) (buffered block : List ℕ) (more : Result Bool LogFault) → buffered ≡ [] →
+    ReadsOn all old new block more → HasMore all old buffered more new block
+more_read all old new buffered block (Ok true) e r = (
+  (block, read_first all old new buffered block r.0 e r.1.0 r.1.1 r.2, ap (λ (l : List ℕ). l ++ block) e),
   r.1.2,
   r.1.3,
 )
-more_read all old new held block (Ok false) e r = (
-  ([], read_first all old new held [] r.0 e r.1.0 r.1.1 r.2, ap (λ (l : List ℕ). l ++ []) e ∙ sym r.1.2),
+more_read all old new buffered block (Ok false) e r = (
+  ([], read_first all old new buffered [] r.0 e r.1.0 r.1.1 r.2, ap (λ (l : List ℕ). l ++ []) e ∙ sym r.1.2),
   r.1.2,
   r.1.3,
 )
-more_read all old new held block (Err (Faults.BadLine n)) e r = absurd r.1
-more_read all old new held block (Err (Faults.LineTooLong n)) e r = absurd r.1
-more_read all old new held block (Err Faults.TooManyLines) e r = absurd r.1
-more_read all old new held block (Err Faults.Write) e r = r.1
-more_read all old new held block (Err Faults.Memory) e r = absurd r.1
-more_read all old new held block (Err Faults.Read) e r = (
+more_read all old new buffered block (Err (Faults.BadLine n)) e r = absurd r.1
+more_read all old new buffered block (Err (Faults.LineTooLong n)) e r = absurd r.1
+more_read all old new buffered block (Err Faults.TooManyLines) e r = absurd r.1
+more_read all old new buffered block (Err Faults.Write) e r = r.1
+more_read all old new buffered block (Err Faults.Memory) e r = absurd r.1
+more_read all old new buffered block (Err Faults.Read) e r = (
   (
     [],
-    read_first all old new held [] r.0 e r.1.0 (keeps_consumes old.remaining new.remaining r.1.1) r.2,
+    read_first all old new buffered [] r.0 e r.1.0 (keeps_consumes old.remaining new.remaining r.1.1) r.2,
     ap (λ (l : List ℕ). l ++ []) e ∙ sym r.1.2,
   ),
   r.1.2,
@@ -427,98 +427,98 @@ drop_in_front a b zero h = refl
 drop_in_front [] b (suc n) h = absurd (omega arith)
 drop_in_front (x ∷ a) b (suc n) h = drop_in_front a b n (omega arith)
 
-pub line_scanned : (held text : List ℕ) (k n : ℕ) (rest after : List ℕ) → k ≤ length held → k + length text ≤ 2101 →
-    n < length (take k held) → IsUnbroken (take n (take k held)) →
-    take k held ≡ take n (take k held) ++ 10 ∷ drop (n + 1) (take k held) → rest ≡ drop (n + 1) held →
-    after ≡ text ++ take n (take k held) → length held ≤ block_size → Scans held text true rest after
-line_scanned held text k n rest after fits room here unbroken split left grown block =
-    let front : List ℕ = take k held in
-    let tail : List ℕ = drop k held in
-    let size : length front ≡ k = length-take-le k held fits in
+pub line_scanned : (buffered text : List ℕ) (k n : ℕ) (rest after : List ℕ) → k ≤ length buffered → k + length text ≤ 2101 →
+    n < length (take k buffered) → IsUnbroken (take n (take k buffered)) →
+    take k buffered ≡ take n (take k buffered) ++ 10 ∷ drop (n + 1) (take k buffered) → rest ≡ drop (n + 1) buffered →
+    after ≡ text ++ take n (take k buffered) → length buffered ≤ block_size → Scans buffered text true rest after
+line_scanned buffered text k n rest after fits room here unbroken split left grown block =
+    let front : List ℕ = take k buffered in
+    let tail : List ℕ = drop k buffered in
+    let size : length front ≡ k = length-take-le k buffered fits in
     let few = front_few n front in
-    let more : drop (n + 1) held ≡ drop (n + 1) front ++ tail =
-    ap (drop (n + 1)) (sym (take-append-drop k held)) ∙ drop_in_front front tail (n + 1) (omega arith) in (
+    let more : drop (n + 1) buffered ≡ drop (n + 1) front ++ tail =
+    ap (drop (n + 1)) (sym (take-append-drop k buffered)) ∙ drop_in_front front tail (n + 1) (omega arith) in (
       take n front,
-      sym (take-append-drop k held) ∙ ap (λ (l : List ℕ). l ++ tail) split
+      sym (take-append-drop k buffered) ∙ ap (λ (l : List ℕ). l ++ tail) split
           ∙ append_assoc (take n front) (10 ∷ drop (n + 1) front) tail
           ∙ ap (λ (l : List ℕ). take n front ++ 10 ∷ l) (sym (left ∙ more)),
       unbroken,
       grown,
       omega (arith, ap length grown, length-append text (take n front)),
-      omega (arith, ap length left, length-drop (n + 1) held, here, size, block),
+      omega (arith, ap length left, length-drop (n + 1) buffered, here, size, block),
     )
 
-pub part_scanned : (held text : List ℕ) (k : ℕ) (rest after : List ℕ) → k ≤ length held →
-    (k < length held → k + length text ≡ 2101) → IsUnbroken (take k held) → rest ≡ drop (length (take k held)) held →
-    after ≡ text ++ take k held → length held ≤ block_size → Scans held text false rest after
-part_scanned held text k rest after fits room unbroken left grown few = (
-  take k held,
-  sym (take-append-drop k held) ∙ ap (λ (l : List ℕ). take k held ++ l) (sym here),
+pub part_scanned : (buffered text : List ℕ) (k : ℕ) (rest after : List ℕ) → k ≤ length buffered →
+    (k < length buffered → k + length text ≡ 2101) → IsUnbroken (take k buffered) → rest ≡ drop (length (take k buffered)) buffered →
+    after ≡ text ++ take k buffered → length buffered ≤ block_size → Scans buffered text false rest after
+part_scanned buffered text k rest after fits room unbroken left grown few = (
+  take k buffered,
+  sym (take-append-drop k buffered) ∙ ap (λ (l : List ℕ). take k buffered ++ l) (sym here),
   unbroken,
   grown,
   by_rest rest here,
   less rest here,
 )
   where
-    size : length (take k held) ≡ k
-    size = length-take-le k held fits
+    size : length (take k buffered) ≡ k
+    size = length-take-le k buffered fits
 
-    here : rest ≡ drop k held
-    here = left ∙ ap (λ (n : ℕ). drop n held) size
+    here : rest ≡ drop k buffered
+    here = left ∙ ap (λ (n : ℕ). drop n buffered) size
 
-    by_rest : (l : List ℕ) → l ≡ drop k held → (l ≡ []) ⊎ (longest_line < length after)
+    by_rest : (l : List ℕ) → l ≡ drop k buffered → (l ≡ []) ⊎ (longest_line < length after)
     by_rest [] e = inl refl
     by_rest (x ∷ l) e =
-        let some = ap length e ∙ length-drop k held in
+        let some = ap length e ∙ length-drop k buffered in
         let whole = room (omega arith) in
-        inr (omega (arith, ap length grown, length-append text (take k held), size))
+        inr (omega (arith, ap length grown, length-append text (take k buffered), size))
 
-    less : (l : List ℕ) → l ≡ drop k held → length text ≤ longest_line → length l < block_size
+    less : (l : List ℕ) → l ≡ drop k buffered → length text ≤ longest_line → length l < block_size
     less [] e short = omega arith
     less (x ∷ l) e short =
-        let some = ap length e ∙ length-drop k held in
+        let some = ap length e ∙ length-drop k buffered in
         let whole = room (omega arith) in
         omega (arith, some, whole)
 
 -- ---- a line that is held whole
 
-pub held_whole : (held : List ℕ) (k count : ℕ) (end : Option ℕ) → k ≤ length held → k ≤ 2101 → count < most_lines →
-    length held ≤ block_size → IsLineEnd (take k held) end → IfSome end (IsHeldLine held count)
+pub held_whole : (buffered : List ℕ) (k count : ℕ) (end : Option ℕ) → k ≤ length buffered → k ≤ 2101 → count < most_lines →
+    length buffered ≤ block_size → IsLineEnd (take k buffered) end → IfSome end (IsHeldLine buffered count)
 unfolding line_scanned
-held_whole held k count None fits few fewer block e = tt
-held_whole held k count (Some n) fits few fewer block e =
-    let s = line_scanned held [] k n (drop (n + 1) held) (take n (take k held)) fits (omega arith) e.0 e.1 e.2 refl refl block in
-    let size : length (take k held) ≡ k = length-take-le k held fits in
-    let same : take n (take k held) ≡ take n held = take-take n k held (omega (arith, e.0, size)) in (
+held_whole buffered k count None fits few fewer block e = tt
+held_whole buffered k count (Some n) fits few fewer block e =
+    let s = line_scanned buffered [] k n (drop (n + 1) buffered) (take n (take k buffered)) fits (omega arith) e.0 e.1 e.2 refl refl block in
+    let size : length (take k buffered) ≡ k = length-take-le k buffered fits in
+    let same : take n (take k buffered) ≡ take n buffered = take-take n k buffered (omega (arith, e.0, size)) in (
       omega (arith, e.0, size),
       subst IsUnbroken same e.1,
-      s.1 ∙ ap (λ (l : List ℕ). l ++ 10 ∷ drop (n + 1) held) same,
+      s.1 ∙ ap (λ (l : List ℕ). l ++ 10 ∷ drop (n + 1) buffered) same,
       omega (arith, e.0, size),
       fewer,
       block,
     )
 
-pub found_held : (all : Option (List ℕ)) (old : Reader) (held : List ℕ) (count n : ℕ) → IsHeldLine held count n →
-    IsFound all old held count (Ok (Held n)) (without_cr (take n held)) old (drop (n + 1) held)
-found_held all old held count n h = (
-  take n held,
-  ([], gives_none (IsInLine all held count) old, append-nil held ∙ h.2 ∙ sym (append_assoc (take n held) (10 ∷ []) (drop (n + 1) held))),
+pub found_held : (all : Option (List ℕ)) (old : Reader) (buffered : List ℕ) (count n : ℕ) → IsHeldLine buffered count n →
+    IsFound all old buffered count (Ok (Held n)) (without_cr (take n buffered)) old (drop (n + 1) buffered)
+found_held all old buffered count n h = (
+  take n buffered,
+  ([], gives_none (IsInLine all buffered count) old, append-nil buffered ∙ h.2 ∙ sym (append_assoc (take n buffered) (10 ∷ []) (drop (n + 1) buffered))),
   h.1,
-  omega (arith, h.0, h.3, length-take-le n held (omega (arith, h.0))),
+  omega (arith, h.0, h.3, length-take-le n buffered (omega (arith, h.0))),
   h.4,
   refl,
-  omega (arith, length-drop (n + 1) held, h.0, h.5),
+  omega (arith, length-drop (n + 1) buffered, h.0, h.5),
 )
 
 -- the line of a search that copied it is the text
-pub found_copied : (all : Option (List ℕ)) (old new : Reader) (held block text : List ℕ) (count : ℕ)
-    (result : Result LineEnd LogFault) → IfOk result IsCopied → IsFound all old held count result text new block →
-    IsFound all old held count result (line_in result block text) new (rest_in result block)
-found_copied all old new held block text count (Ok (Held n)) c f = absurd (cc)
-found_copied all old new held block text count (Ok Line) c f = f
-found_copied all old new held block text count (Ok Last) c f = f
-found_copied all old new held block text count (Ok End) c f = f
-found_copied all old new held block text count (Err fault) c f = f
+pub found_copied : (all : Option (List ℕ)) (old new : Reader) (buffered block text : List ℕ) (count : ℕ)
+    (result : Result LineEnd LogFault) → IfOk result IsCopied → IsFound all old buffered count result text new block →
+    IsFound all old buffered count result (line_in result block text) new (rest_in result block)
+found_copied all old new buffered block text count (Ok (Held n)) c f = absurd (cc)
+found_copied all old new buffered block text count (Ok Line) c f = f
+found_copied all old new buffered block text count (Ok Last) c f = f
+found_copied all old new buffered block text count (Ok End) c f = f
+found_copied all old new buffered block text count (Err fault) c f = f
 
 pub lies_copied : (block : List ℕ) (result : Result LineEnd LogFault) → IfOk result IsCopied →
     IfOk result (λ found. LiesIn found block)

@@ -19,7 +19,7 @@ held_bytes End = None
 
 -- a line in the block has its line feed there, and is not too long
 abbrev pub LiesIn : LineEnd → List ℕ → Type 0
-LiesIn found held = IfSome (held_bytes found) (λ n. (n < length held) × (n ≤ longest_line))
+LiesIn found buffered = IfSome (held_bytes found) (λ n. (n < length buffered) × (n ≤ longest_line))
 
 -- a line that was copied is not in the block
 abbrev pub IsCopied : LineEnd → Type 0
@@ -27,26 +27,26 @@ IsCopied found = held_bytes found ≡ None
 
 -- the bytes before the line feed without a carriage return, or the copied line
 abbrev pub front_or : Option ℕ → List ℕ → List ℕ → List ℕ
-front_or None held text = text
-front_or (Some n) held text = without_cr (take n held)
+front_or None buffered text = text
+front_or (Some n) buffered text = without_cr (take n buffered)
 
 -- the bytes after the line feed, or all bytes of the block
 abbrev pub behind_or_all : Option ℕ → List ℕ → List ℕ
-behind_or_all None held = held
-behind_or_all (Some n) held = drop (n + 1) held
+behind_or_all None buffered = buffered
+behind_or_all (Some n) buffered = drop (n + 1) buffered
 
 -- the line, and the rest of the block
 abbrev pub line_at : LineEnd → List ℕ → List ℕ → List ℕ
-line_at found held text = front_or (held_bytes found) held text
+line_at found buffered text = front_or (held_bytes found) buffered text
 
 abbrev pub rest_after : LineEnd → List ℕ → List ℕ
-rest_after found held = behind_or_all (held_bytes found) held
+rest_after found buffered = behind_or_all (held_bytes found) buffered
 
 -- the same for a search that may have failed
 abbrev pub line_in : Result LineEnd LogFault → List ℕ → List ℕ → List ℕ
-line_in (Ok found) held text = line_at found held text
-line_in (Err fault) held text = text
+line_in (Ok found) buffered text = line_at found buffered text
+line_in (Err fault) buffered text = text
 
 abbrev pub rest_in : Result LineEnd LogFault → List ℕ → List ℕ
-rest_in (Ok found) held = rest_after found held
-rest_in (Err fault) held = held
+rest_in (Ok found) buffered = rest_after found buffered
+rest_in (Err fault) buffered = buffered

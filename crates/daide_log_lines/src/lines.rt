@@ -49,8 +49,8 @@ fn held_line(block: &Block, count: u32) -> Option<usize>
     if count == MOST_LINES {
         return None;
     }
-    let held = block.as_slice();
-    line_end(&held[..held.len().min(TOO_LONG)])
+    let buffered = block.as_slice();
+    line_end(&buffered[..buffered.len().min(TOO_LONG)])
 }
 
 /// Returns a line without the carriage return at its end.
@@ -69,8 +69,8 @@ fn scan(block: &mut Block, text: &mut Text) -> bool
     ensures { Scans block.old text.old.items result block.new text.new.items }
 {
     let room = TOO_LONG - text.len();
-    let held = block.as_slice();
-    let front = &held[..held.len().min(room)];
+    let buffered = block.as_slice();
+    let front = &buffered[..buffered.len().min(room)];
     match line_end(front) {
         Some(n) => {
             text.put(&front[..n]);

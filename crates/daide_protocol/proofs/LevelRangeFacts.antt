@@ -86,7 +86,7 @@ opened (suc n) = 0x40 ∷ 0x00 ∷ opened n
 -- a HUH of 1,018 bytes, of which some brackets arrived, with the height of its reader's stack
 abbrev huh_of : ℕ → ℕ → Holding
 huh_of brackets n = record {
-  held = 0x02 ∷ 0x00 ∷ 0x03 ∷ 0xFA ∷ 0x48 ∷ 0x06 ∷ opened brackets;
+  frame_bytes = 0x02 ∷ 0x00 ∷ 0x03 ∷ 0xFA ∷ 0x48 ∷ 0x06 ∷ opened brackets;
   entries = n;
   total = 0;
   total_before = 0;

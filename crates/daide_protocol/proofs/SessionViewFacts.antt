@@ -10,7 +10,7 @@ use Rattle.daide_frame.specs.PerSide.{both}
 use Rattle.daide_protocol.specs.declared.phase.Phase.TheVariants.{Open, Over}
 use Rattle.daide_protocol.specs.declared.note.Deed.TheVariants as Deeds
 use Rattle.daide_protocol.specs.declared.note.Note.TheVariants as Notes
-use Rattle.daide_protocol.specs.Wires.{room_of, is_awaited, is_closed, without, first_len, held_after, grown}
+use Rattle.daide_protocol.specs.Wires.{room_of, is_awaited, is_closed, without, first_len, frame_bytes_after, grown}
 use Rattle.daide_protocol.specs.Wires.{counts_from, asked_at_most, looked_at_most}
 use Rattle.daide_protocol.specs.Weight.{weight_of, weight_bound, steps_bound, IsKeptSmall}
 use Rattle.daide_protocol.proofs.SomeRun.{in_phase}
@@ -26,7 +26,7 @@ small = record { cap = 512; top_level = L60; max_depth = 62; words = [] }
 -- these bytes of a frame, with 4 entries on its reader's stack, 9 look-ups, 5 of them before this message, and 7 tokens
 -- examined for the level of an HLO
 abbrev holds : List ℕ → Holding
-holds bytes = record { held = bytes; entries = 4; total = 9; total_before = 5; looked_at = 7 }
+holds bytes = record { frame_bytes = bytes; entries = 4; total = 9; total_before = 5; looked_at = 7 }
 
 -- these bytes from the two sides arrived since their last whole frames, and nothing is queued
 abbrev holding_both : Limits → List ℕ → List ℕ → SessionView
@@ -148,7 +148,7 @@ bound_of_an_answer = (refl, refl)
 
 -- a side that holds the HUH has at most 8 * 2 + 16 entries; four bytes of a body of two are too many
 kept_of_a_huh : (n : ℕ) →
-    IsKeptSmall 65526 (record { held = huh_begun; entries = n; total = 9; total_before = 5; looked_at = 7 }) → n ≤ 32
+    IsKeptSmall 65526 (record { frame_bytes = huh_begun; entries = n; total = 9; total_before = 5; looked_at = 7 }) → n ≤ 32
 unfolding announced head_in parse_head
 kept_of_a_huh n kept = kept.entries
 
@@ -248,12 +248,12 @@ unfolding last_items first_items parse_head is_alien
 pieces_grow = (refl, refl, refl, refl)
 
 -- a frame is kept for its answer; only a dropped one is not
-kept_or_dropped : (head : Head) (place : ℕ) → (held_after Notes.Nothing unclosed ≡ unclosed)
-    × (held_after (Notes.Frame head Deeds.Relayed) unclosed ≡ unclosed)
-    × (held_after (Notes.Frame head Deeds.Prn) unclosed ≡ unclosed)
-    × (held_after (Notes.Frame head (Deeds.Huh place)) unclosed ≡ unclosed)
-    × (held_after (Notes.Frame head Deeds.Dropped) unclosed ≡ [])
-    × (held_after (Notes.Fault WrongLength) unclosed ≡ unclosed)
+kept_or_dropped : (head : Head) (place : ℕ) → (frame_bytes_after Notes.Nothing unclosed ≡ unclosed)
+    × (frame_bytes_after (Notes.Frame head Deeds.Relayed) unclosed ≡ unclosed)
+    × (frame_bytes_after (Notes.Frame head Deeds.Prn) unclosed ≡ unclosed)
+    × (frame_bytes_after (Notes.Frame head (Deeds.Huh place)) unclosed ≡ unclosed)
+    × (frame_bytes_after (Notes.Frame head Deeds.Dropped) unclosed ≡ [])
+    × (frame_bytes_after (Notes.Fault WrongLength) unclosed ≡ unclosed)
 kept_or_dropped head place = (refl, refl, refl, refl, refl, refl)
 
 abbrev dm : Head

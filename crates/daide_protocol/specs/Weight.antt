@@ -11,12 +11,12 @@ use Rattle.daide_protocol.specs.Wires.{SessionView, Holding, holding, queued, is
 -- the lengths of the six collections: two bodies, two stacks, two send queues
 unfoldable pub weight_of : SessionView → ℕ
 weight_of g =
-    length (drop 4 g.sides.bot.held) + g.sides.bot.entries + (length (drop 4 g.sides.server.held) + g.sides.server.entries)
+    length (drop 4 g.sides.bot.frame_bytes) + g.sides.bot.entries + (length (drop 4 g.sides.server.frame_bytes) + g.sides.server.entries)
     + (length g.wires.bot + length g.wires.server)
 
 -- the whole tokens of the message held from a side, if its frame is a message
-abbrev pub tokens_held : ℕ → List ℕ → List ℕ
-tokens_held cap held = if is_dm_head (head_in cap held) then tokens_of (drop 4 held) else []
+abbrev pub frame_tokens : ℕ → List ℕ → List ℕ
+frame_tokens cap frame_bytes = if is_dm_head (head_in cap frame_bytes) then tokens_of (drop 4 frame_bytes) else []
 
 -- the bound of the frames queued for both wires
 abbrev pub queue_bound : ℕ
@@ -24,24 +24,24 @@ queue_bound = 64
 
 -- one direction: the announced length of the held frame, capped, and the stack entries for the open brackets
 abbrev pub direction_bound : ℕ → List ℕ → ℕ
-direction_bound cap held = min (announced cap held) cap + entries_bound (open_brackets (tokens_held cap held))
+direction_bound cap frame_bytes = min (announced cap frame_bytes) cap + entries_bound (open_brackets (frame_tokens cap frame_bytes))
 
 -- both directions, and the queued frames
 unfoldable pub weight_bound : SessionView → ℕ
 weight_bound g =
-    direction_bound g.state.limits.cap g.sides.bot.held + direction_bound g.state.limits.cap g.sides.server.held
+    direction_bound g.state.limits.cap g.sides.bot.frame_bytes + direction_bound g.state.limits.cap g.sides.server.frame_bytes
     + queue_bound
 
 -- one direction is within these bounds: the announced length, capped, and the entries
 pub record IsKeptSmall (cap : ℕ) (h : Holding) : Type 0 where
-  pub bytes : length (drop 4 h.held) ≤ min (announced cap h.held) cap
-  pub entries : h.entries ≤ entries_bound (open_brackets (tokens_held cap h.held))
+  pub bytes : length (drop 4 h.frame_bytes) ≤ min (announced cap h.frame_bytes) cap
+  pub entries : h.entries ≤ entries_bound (open_brackets (frame_tokens cap h.frame_bytes))
 
 -- the bound of the look-ups for a side's message
 abbrev pub steps_bound : SessionView → Side → ℕ
 steps_bound g side =
-    message_steps (length (tokens_held g.state.limits.cap (holding g side).held)) (is_awaited (queued g) side)
+    message_steps (length (frame_tokens g.state.limits.cap (holding g side).frame_bytes)) (is_awaited (queued g) side)
 
 -- if no answer to a side's last frame is queued, the held bytes are those since its last whole frame
 abbrev pub IsTied : SessionView → Type 0
-IsTied g = (side : Side) → is_awaited (queued g) side ≡ false → (holding g side).held ≡ (coming g.state side).pending
+IsTied g = (side : Side) → is_awaited (queued g) side ≡ false → (holding g side).frame_bytes ≡ (coming g.state side).pending

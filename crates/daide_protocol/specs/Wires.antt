@@ -53,7 +53,7 @@ note_of (effect ∷ effects) = note_or effect.reported (note_of effects)
 -- stack; the look-ups of its reader's table, in all and before the current message; and the number of tokens examined
 -- for the level of an HLO. The last three are modulo 2^64.
 pub record Holding : Type 0 where
-  pub held : List ℕ
+  pub frame_bytes : List ℕ
   pub entries : ℕ
   pub total : ℕ
   pub total_before : ℕ
@@ -150,7 +150,7 @@ IsFrontOf xs (frame ∷ frames) = (0 < length xs) × ((rest : List ℕ) × (fram
 pub record IsNew (limits : Limits) (g : SessionView) : Type 0 where
   pub state : g.state ≡ initial_state limits
   pub quiet : (side : Side) → queued g side ≡ []
-  pub held : (side : Side) → (holding g side).held ≡ []
+  pub frame_bytes : (side : Side) → (holding g side).frame_bytes ≡ []
   pub unasked : (side : Side) → (holding g side).total ≡ 0
   pub unlooked : (side : Side) → (holding g side).looked_at ≡ 0
   pub uncounted : g.account ≡ nothing_accounted
@@ -167,7 +167,7 @@ pub record Refines (old : SessionView) (events : List Event) (reported : Note) (
 -- If a side's answer is gone, nothing is held from it; otherwise what is held is unchanged. No table made a look-up.
 pub record Releases (old new : SessionView) : Type 0 where
   pub gone : (side : Side) → is_awaited (queued old) side ≡ true → is_awaited (queued new) side ≡ false →
-      ((holding new side).held ≡ []) × ((holding new side).total ≡ (holding old side).total)
+      ((holding new side).frame_bytes ≡ []) × ((holding new side).total ≡ (holding old side).total)
   pub kept : (side : Side) → is_awaited (queued new) side ≡ is_awaited (queued old) side →
       holding new side ≡ holding old side
 
@@ -179,7 +179,7 @@ pub record Lost (old : SessionView) (side : Side) (new : SessionView) : Type 0 w
   pub other_wire : queued new (other side) ≡ queued old (other side) ++ sent_to (other side) effects
   pub over : is_over new.state.phase ≡ true
   pub counts : new.account ≡ account_after old effects
-  pub held : Releases old new
+  pub frame_bytes : Releases old new
 
 -- a wire took n bytes of its queue, and the rest of the state and the wires is unchanged
 pub record Wrote (old : SessionView) (side : Side) (n : ℕ) (new : SessionView) : Type 0 where
@@ -188,7 +188,7 @@ pub record Wrote (old : SessionView) (side : Side) (n : ℕ) (new : SessionView)
   pub front_bytes : sent_bytes (queued new side) ≡ drop n (sent_bytes (queued old side))
   pub other_wire : queued new (other side) ≡ queued old (other side)
   pub counts : new.account ≡ old.account
-  pub held : Releases old new
+  pub frame_bytes : Releases old new
 
 -- ---- what is held after a call
 
@@ -201,14 +201,14 @@ is_dm_head None = false
 is_dm_head (Some head) = is_dm head.kind
 
 -- the held bytes of a frame after more of them arrived: none if the frame is dropped
-abbrev pub held_after : Note → List ℕ → List ℕ
-held_after Notes.Nothing bytes = bytes
-held_after (Notes.Frame head Deeds.Relayed) bytes = bytes
-held_after (Notes.Frame head Deeds.Dropped) bytes = []
-held_after (Notes.Frame head Deeds.Prn) bytes = bytes
-held_after (Notes.Frame head (Deeds.Huh place)) bytes = bytes
-held_after (Notes.Fault code) bytes = bytes
-held_after Notes.Stopped bytes = bytes
+abbrev pub frame_bytes_after : Note → List ℕ → List ℕ
+frame_bytes_after Notes.Nothing bytes = bytes
+frame_bytes_after (Notes.Frame head Deeds.Relayed) bytes = bytes
+frame_bytes_after (Notes.Frame head Deeds.Dropped) bytes = []
+frame_bytes_after (Notes.Frame head Deeds.Prn) bytes = bytes
+frame_bytes_after (Notes.Frame head (Deeds.Huh place)) bytes = bytes
+frame_bytes_after (Notes.Fault code) bytes = bytes
+frame_bytes_after Notes.Stopped bytes = bytes
 
 -- the count before the current message: the total at the time when a message's header was completed
 abbrev pub counts_from : Option Head → Option Head → Holding → ℕ
@@ -218,7 +218,7 @@ counts_from (Some head) later h = h.total_before
 
 -- the bytes of a frame and more of them, up to the end of the frame
 abbrev pub grown : SessionView → Side → List ℕ → List ℕ
-grown g side piece = fed g.state.limits.cap (holding g side).held piece
+grown g side piece = fed g.state.limits.cap (holding g side).frame_bytes piece
 
 -- the header of a frame with these bytes, once it is whole and good
 abbrev pub head_by : SessionView → List ℕ → Option Head
@@ -238,9 +238,9 @@ looked_at_most piece = length piece / 2 + 1
 -- byte nothing changed.
 pub record ReceivesBytes (old : SessionView) (side : Side) (piece : List ℕ) (reported : Note) (new : SessionView) : Type 0 where
   pub nothing : piece ≡ [] → holding new side ≡ holding old side
-  pub bytes : (holding new side).held ≡ held_after reported (grown old side piece)
+  pub bytes : (holding new side).frame_bytes ≡ frame_bytes_after reported (grown old side piece)
   pub base : (holding new side).total_before
-      ≡ counts_from (head_by old (holding old side).held) (head_by old (grown old side piece)) (holding old side)
+      ≡ counts_from (head_by old (holding old side).frame_bytes) (head_by old (grown old side piece)) (holding old side)
   pub no_message : is_dm_head (head_by old (grown old side piece)) ≡ false →
       (holding new side).total ≡ (holding old side).total
   pub raised : IsRaised (asked_at_most piece) (holding old side).total (holding new side).total

@@ -86,11 +86,11 @@ pub(crate) fn follow_word<T: Predict, const N: usize>(
     cells: &mut [Symbol; N],
     top: usize,
     token: Token,
-    known: Column,
+    column: Column,
 ) -> Option<usize>
     requires size { N ≤ most_symbols }
     requires top { top < N }
-    requires known { known ≡ known_class token }
+    requires column { column ≡ known_class token }
     requires room { IfSome (stack_after (T.moves (T.words table.old)) (T.class_of (T.words table.old) token)
         (reverse (take (top + 1) cells.old))) (λ after. length after ≤ N) }
     ensures taken { IfSome result (λ left.
@@ -105,7 +105,7 @@ pub(crate) fn follow_word<T: Predict, const N: usize>(
         ≡ (T.asked table.old + steps_at (T.moves (T.words table.old)) (T.class_of (T.words table.old) token)
         (reverse (take (top + 1) cells.old))) % 2 ^ 64 }
 {
-    let answer = table.predict_word(cells[top], token, known);
+    let answer = table.predict_word(cells[top], token, column);
     if answer.is_take() {
         put_slowly(cells, top, answer.cells(), answer.len());
         return Some(top + answer.len());

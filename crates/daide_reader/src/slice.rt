@@ -154,45 +154,45 @@ fn run_below_depth_limit<T: Predict, const N: usize>(
     let mut opened = start.unclosed;
     let mut left = start.count;
     let mut next = start.read;
-    let mut held = LoadedToken::at(body, next);
-    let mut known = Column::known(held.token());
+    let mut loaded = LoadedToken::at(body, next);
+    let mut column = Column::known(loaded.token());
     if left != 0 {
         let mut symbol = TopSymbol::of(cells[left - 1]);
         loop {
             let top = left - 1;
-            let answer = table.predict_token(symbol, held.token(), known);
+            let answer = table.predict_token(symbol, loaded.token(), column);
             if let Some(first) = answer.first() {
-                opened = opened.wrapping_add(known.bracket_step());
+                opened = opened.wrapping_add(column.bracket_step());
                 if next == last {
                     return run_end(end, opened, put(cells, top, &answer));
                 }
                 next += 1;
-                held = LoadedToken::at(body, next);
-                known = Column::known(held.token());
+                loaded = LoadedToken::at(body, next);
+                column = Column::known(loaded.token());
                 left = put(cells, top, &answer);
                 symbol = first;
                 continue;
             }
             if answer.is_take() {
-                opened = opened.wrapping_add(known.bracket_step());
+                opened = opened.wrapping_add(column.bracket_step());
                 if next == last {
                     return run_end(end, opened, top);
                 }
                 next += 1;
-                held = LoadedToken::at(body, next);
-                known = Column::known(held.token());
+                loaded = LoadedToken::at(body, next);
+                column = Column::known(loaded.token());
                 left = top;
             } else if answer.is_stop() {
-                opened = opened.wrapping_add(known.bracket_step());
-                let Some(now) = follow_word(table, cells, top, held.token(), known) else {
+                opened = opened.wrapping_add(column.bracket_step());
+                let Some(now) = follow_word(table, cells, top, loaded.token(), column) else {
                     return reject_at(opened, next);
                 };
                 if next == last {
                     return run_end(end, opened, now);
                 }
                 next += 1;
-                held = LoadedToken::at(body, next);
-                known = Column::known(held.token());
+                loaded = LoadedToken::at(body, next);
+                column = Column::known(loaded.token());
                 left = now;
             } else {
                 left = top;
@@ -203,7 +203,7 @@ fn run_below_depth_limit<T: Predict, const N: usize>(
             symbol = TopSymbol::of(cells[left - 1]);
         }
     }
-    reject_at(opened.wrapping_add(known.bracket_step()), next)
+    reject_at(opened.wrapping_add(column.bracket_step()), next)
 }
 
 /// Reads the tokens of a body, given the state before them. The index of an error is relative to the body.

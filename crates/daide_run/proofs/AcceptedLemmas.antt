@@ -7,8 +7,8 @@ use Rattle.daide_io.specs.Streams.{StreamCall}
 use Rattle.daide_sockets.specs.Pairing.{Paired, RunSockets, Transits}
 
 module _ {P S : Type 0} (to_give taken : S → Option (List ℕ)) (calls : S → Option (List StreamCall)) (pair : P → Paired S) where
-  one : (answer : SystemCall P) (old new : RunSockets S) → Transits to_give taken calls pair old answer new →
-      new.came ≡ old.came + comes answer
+  one : (call : SystemCall P) (old new : RunSockets S) → Transits to_give taken calls pair old call new →
+      new.came ≡ old.came + comes call
   one (Polls may_block woken orders) old new h = let e = h.0 in omega (arith, e)
   one (Shows ports status) old new h = let e = ap (λ (s : RunSockets S). s.came) h in omega (arith, e)
   one (Accepts place true) old new h = h.came
@@ -21,10 +21,10 @@ module _ {P S : Type 0} (to_give taken : S → Option (List ℕ)) (calls : S →
   one (Retires place ports end) old new h = let e = h.1 in omega (arith, e)
   one (Notifies notice) old new h = let e = ap (λ (s : RunSockets S). s.came) h in omega (arith, e)
 
-  pub all_counted : (answers : List (SystemCall P)) (old new : RunSockets S) →
-      TransitsBy (Transits to_give taken calls pair) old answers new → new.came ≡ old.came + sum_over_calls comes answers
+  pub all_counted : (trace : List (SystemCall P)) (old new : RunSockets S) →
+      TransitsBy (Transits to_give taken calls pair) old trace new → new.came ≡ old.came + sum_over_calls comes trace
   all_counted [] old new h = let e = ap (λ (s : RunSockets S). s.came) h in omega (arith, e)
-  all_counted (answer ∷ answers) old new h =
-      let a = one answer old h.0 h.1 in
-      let b = all_counted answers h.0 new h.2 in
+  all_counted (call ∷ trace) old new h =
+      let a = one call old h.0 h.1 in
+      let b = all_counted trace h.0 new h.2 in
       omega (arith, a, b)

@@ -63,11 +63,11 @@ module _ {P S : Type 0} (streams : P → Buffer S × Buffer S) (to_give taken : 
     all_move history h.0 new h.2,
   )
 
-  pub served_exchange : (settings : Settings) (answers : List (SystemCall P)) (now : SessionView × QuotaPortsView P) →
-      IsServed transition settings answers now →
-      (place : ℕ) × (ports : P) × Contains answers (Connects place (Ready ports)) × ((history : List PortCall) ×
+  pub served_exchange : (settings : Settings) (trace : List (SystemCall P)) (now : SessionView × QuotaPortsView P) →
+      IsServed transition settings trace now →
+      (place : ℕ) × (ports : P) × Contains trace (Connects place (Ready ports)) × ((history : List PortCall) ×
       Exchanges to_give taken (run_limits settings) history (streams ports) now.0 (streams now.1.ports))
-  served_exchange settings answers now h = (
+  served_exchange settings trace now h = (
     h.place,
     h.ports,
     h.came,

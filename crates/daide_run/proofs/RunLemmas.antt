@@ -30,10 +30,10 @@ use Rattle.daide_run.specs.Running.{HasNoSockets, RunsBy, RunsOn, RunEnds, RunEn
 pub ran_on : {P T : Type 0} (transition : T → SystemCall P → T → Type 0) (port_transition : P → PortCall → P → Type 0)
     (settings : Settings) (failed : Type 0) (before after : Option (List ℕ)) (begun last : T)
     (served : Result (Unit {0}) ServeFault) → Announces failed before after →
-    OnOk served ((answers : List (SystemCall P)) × TransitsBy transition begun answers last
-    × IsWholeRun port_transition settings answers) →
-    IfErr served (λ fault. (answers : List (SystemCall P)) × TransitsBy transition begun answers last
-    × GivesUp (λ n. Unit {0}) port_transition settings fault answers) →
+    OnOk served ((trace : List (SystemCall P)) × TransitsBy transition begun trace last
+    × IsWholeRun port_transition settings trace) →
+    IfErr served (λ fault. (trace : List (SystemCall P)) × TransitsBy transition begun trace last
+    × GivesUp (λ n. Unit {0}) port_transition settings fault trace) →
     RunsOn transition port_transition settings failed before after begun (ending_by served)
 ran_on transition port_transition settings failed before after begun last (Ok done) said whole given_up =
     (said, last, whole.0, whole.1, whole.2)
@@ -70,17 +70,17 @@ still_none sockets_of seconds now before e h = subst (λ t. HasNoSockets seconds
 -- the system, which each call keeps.
 module _ {P S T : Type 0} (to_give taken : S → Option (List ℕ)) (calls : S → Option (List StreamCall))
     (pair : P → Paired S) (transition : P → PortCall → P → Type 0) (sockets_of : T → RunSockets S)
-    (step : T → SystemCall P → T → Type 0) (Holds : T → Type 0) (moves : (old : T) (answer : SystemCall P) (new : T) → Holds old →
-    step old answer new → Holds new × Transits to_give taken calls pair (sockets_of old) answer (sockets_of new)) where
+    (step : T → SystemCall P → T → Type 0) (Holds : T → Type 0) (moves : (old : T) (call : SystemCall P) (new : T) → Holds old →
+    step old call new → Holds new × Transits to_give taken calls pair (sockets_of old) call (sockets_of new)) where
   -- the sockets of a system follow its calls
-  sockets_go : (answers : List (SystemCall P)) (old new : T) → Holds old → TransitsBy step old answers new →
-      TransitsBy (Transits to_give taken calls pair) (sockets_of old) answers (sockets_of new)
+  sockets_go : (trace : List (SystemCall P)) (old new : T) → Holds old → TransitsBy step old trace new →
+      TransitsBy (Transits to_give taken calls pair) (sockets_of old) trace (sockets_of new)
   sockets_go [] old new holds e = ap sockets_of e
-  sockets_go (answer ∷ answers) old new holds h =
-      let moved = moves old answer h.0 holds h.1 in (sockets_of h.0, moved.1, sockets_go answers h.0 new moved.0 h.2)
+  sockets_go (call ∷ trace) old new holds h =
+      let moved = moves old call h.0 holds h.1 in (sockets_of h.0, moved.1, sockets_go trace h.0 new moved.0 h.2)
 
   runs : (seconds : ℕ) (Kind : List (SystemCall P) → Type 0) (old last : T) → HasNoSockets seconds (sockets_of old) → Holds old →
-      ((answers : List (SystemCall P)) × TransitsBy step old answers last × Kind answers) →
+      ((trace : List (SystemCall P)) × TransitsBy step old trace last × Kind trace) →
       RunsBy to_give taken calls pair seconds Kind
   runs seconds Kind old last begun holds h =
       (h.0, sockets_of old, sockets_of last, begun, sockets_go h.0 old last holds h.1, h.2)

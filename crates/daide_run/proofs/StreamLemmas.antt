@@ -18,7 +18,7 @@ use Rattle.daide_io.specs.Ports.{taken}
 use Rattle.daide_io.specs.declared.ports.Pull.TheVariants.{Got, Idle, Ended}
 use Rattle.daide_io.specs.declared.ports.Put.TheVariants.{Took, Failed}
 use Rattle.daide_buffered_io.specs.Buffers.{Buffer, Passes}
-use Rattle.daide_buffered_io.specs.Streams.{stream_of, gave, given, Transfers}
+use Rattle.daide_buffered_io.specs.Streams.{stream_of, pulled_bytes, given, Transfers}
 use Rattle.daide_run.specs.Exchanged.{Exchanges}
 use Rattle.daide_buffered_io.proofs.BufferLemmas.{same_passes, passes_then}
 
@@ -54,7 +54,7 @@ none_of_other : (side from : Side) (bytes : List ℕ) → same_side from side �
 none_of_other side from [] e = refl
 none_of_other side from (byte ∷ bytes) e = rw e (none_of_other side from bytes e)
 
-bytes_of_event : (side : Side) (answer : PortCall) → bytes_from side (event_of answer) ≡ gave side answer
+bytes_of_event : (side : Side) (call : PortCall) → bytes_from side (event_of call) ≡ pulled_bytes side call
 bytes_of_event side TurnBegins = refl
 bytes_of_event side (Clock ImTimeIsOver) = refl
 bytes_of_event side (Clock StopIsRequested) = refl
@@ -62,7 +62,7 @@ bytes_of_event side (Clock NoEvent) = refl
 bytes_of_event side (Pulled from buffer (Got n) bytes) = go (same_side from side) refl
   where
     go : (b : Bool) → same_side from side ≡ b →
-        bytes_from side (bytes_come from bytes) ≡ gave side (Pulled from buffer (Got n) bytes)
+        bytes_from side (bytes_come from bytes) ≡ pulled_bytes side (Pulled from buffer (Got n) bytes)
     go true e = rw e (all_of_own side from bytes e)
     go false e = rw e (none_of_other side from bytes e)
 bytes_of_event side (Pulled from buffer Idle bytes) = refl
@@ -70,12 +70,12 @@ bytes_of_event side (Pulled from buffer Ended bytes) = refl
 bytes_of_event side (Offered to bytes (Took n)) = refl
 bytes_of_event side (Offered to bytes Failed) = refl
 
-bytes_of_events : (side : Side) (answers : List PortCall) → bytes_from side (events_of answers) ≡ given side answers
+bytes_of_events : (side : Side) (trace : List PortCall) → bytes_from side (events_of trace) ≡ given side trace
 bytes_of_events side [] = refl
-bytes_of_events side (answer ∷ answers) =
-    bytes_from-append side (event_of answer) (events_of answers)
-    ∙ ap (λ (t : List ℕ). t ++ bytes_from side (events_of answers)) (bytes_of_event side answer)
-    ∙ ap (λ (t : List ℕ). gave side answer ++ t) (bytes_of_events side answers)
+bytes_of_events side (call ∷ trace) =
+    bytes_from-append side (event_of call) (events_of trace)
+    ∙ ap (λ (t : List ℕ). t ++ bytes_from side (events_of trace)) (bytes_of_event side call)
+    ∙ ap (λ (t : List ℕ). pulled_bytes side call ++ t) (bytes_of_events side trace)
 
 -- ---- a history
 
@@ -86,9 +86,9 @@ module _ {S : Type 0} (to_give got : S → Option (List ℕ)) where
   all_passed [] first now h side =
       subst (λ (streams : Buffer S × Buffer S). Passes to_give got (stream_of first side) [] [] (stream_of streams side))
       (sym h) (same_passes to_give got (stream_of first side))
-  all_passed (answer ∷ history) first now h side =
+  all_passed (call ∷ history) first now h side =
       passes_then to_give got (stream_of first side) (stream_of h.0 side) (stream_of now side)
-      (gave side answer) (took side answer) (given side history) (taken side history)
+      (pulled_bytes side call) (took side call) (given side history) (taken side history)
       (h.1.passes side) (all_passed history h.0 now h.2 side)
 
   front_of_answers : (failed over : Bool) (waited answers took waits : List ℕ) → waited ≡ [] →

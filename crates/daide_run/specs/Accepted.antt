@@ -9,5 +9,5 @@ use Rattle.daide_sockets.specs.Pairing.{Paired, RunSockets, Transits}
 -- many bots as the settings say.
 abbrev pub BotsAreCounted : (P : Type 0) → {S : Type 0} → (S → Option (List ℕ)) → (S → Option (List ℕ)) →
     (S → Option (List StreamCall)) → Type 0
-BotsAreCounted P {S} to_give taken calls = (pair : P → Paired S) (old new : RunSockets S) (answers : List (SystemCall P)) →
-    TransitsBy (Transits to_give taken calls pair) old answers new → new.came ≡ old.came + sum_over_calls comes answers
+BotsAreCounted P {S} to_give taken calls = (pair : P → Paired S) (old new : RunSockets S) (trace : List (SystemCall P)) →
+    TransitsBy (Transits to_give taken calls pair) old trace new → new.came ≡ old.came + sum_over_calls comes trace

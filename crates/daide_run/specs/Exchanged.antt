@@ -57,7 +57,7 @@ SessionsExchange {S} to_give got =
 -- exchanged with their streams exactly the machine's input and output.
 abbrev pub ServedSessionsExchange : {P S : Type 0} → (P → PortCall → P → Type 0) → (P → Buffer S × Buffer S) →
     (S → Option (List ℕ)) → (S → Option (List ℕ)) → Type 0
-ServedSessionsExchange {P} {S} transition streams to_give taken = (settings : Settings) (answers : List (SystemCall P))
-    (now : SessionView × QuotaPortsView P) → IsServed transition settings answers now →
-    (place : ℕ) × (ports : P) × Contains answers (Connects place (Ready ports)) × ((history : List PortCall) ×
+ServedSessionsExchange {P} {S} transition streams to_give taken = (settings : Settings) (trace : List (SystemCall P))
+    (now : SessionView × QuotaPortsView P) → IsServed transition settings trace now →
+    (place : ℕ) × (ports : P) × Contains trace (Connects place (Ready ports)) × ((history : List PortCall) ×
     Exchanges to_give taken (run_limits settings) history (streams ports) now.0 (streams now.1.ports))

@@ -34,9 +34,9 @@ HasNoSockets stall_seconds sockets = (time : Option Duration) × IsIdleTime stal
 abbrev pub RunsBy : {P S : Type 0} → (S → Option (List ℕ)) → (S → Option (List ℕ)) →
     (S → Option (List StreamCall)) → (P → Paired S) →
     ℕ → (List (SystemCall P) → Type 0) → Type 0
-RunsBy {P} {S} to_give taken calls pair stall_seconds Kind = (answers : List (SystemCall P)) × (old : RunSockets S)
-    × (new : RunSockets S) × HasNoSockets stall_seconds old × TransitsBy (Transits to_give taken calls pair) old answers new
-    × Kind answers
+RunsBy {P} {S} to_give taken calls pair stall_seconds Kind = (trace : List (SystemCall P)) × (old : RunSockets S)
+    × (new : RunSockets S) × HasNoSockets stall_seconds old × TransitsBy (Transits to_give taken calls pair) old trace new
+    × Kind trace
 
 -- the result of a run from the result of its loop
 abbrev pub ending_by : Result (Unit {0}) ServeFault → Result (Unit {0}) RunFault
@@ -48,11 +48,11 @@ ending_by (Err fault) = Err (Gateway (gateway_faults.Serve fault))
 abbrev pub RunsOn : {P T : Type 0} → (T → SystemCall P → T → Type 0) → (P → PortCall → P → Type 0) → Settings → Type 0 →
     Option (List ℕ) → Option (List ℕ) → T → Result (Unit {0}) RunFault → Type 0
 RunsOn {P} {T} transition port_transition settings failed old new begun (Ok done) =
-    Announces failed old new × (last : T) × (answers : List (SystemCall P)) × TransitsBy transition begun answers last
-    × IsWholeRun port_transition settings answers
+    Announces failed old new × (last : T) × (trace : List (SystemCall P)) × TransitsBy transition begun trace last
+    × IsWholeRun port_transition settings trace
 RunsOn {P} {T} transition port_transition settings failed old new begun (Err (Gateway (gateway_faults.Serve fault))) =
-    Announces failed old new × (last : T) × (answers : List (SystemCall P)) × TransitsBy transition begun answers last
-    × GivesUp (λ n. Unit {0}) port_transition settings fault answers
+    Announces failed old new × (last : T) × (trace : List (SystemCall P)) × TransitsBy transition begun trace last
+    × GivesUp (λ n. Unit {0}) port_transition settings fault trace
 RunsOn transition port_transition settings failed old new begun (Err (Gateway (gateway_faults.Name key))) = ⊥
 RunsOn transition port_transition settings failed old new begun (Err (Gateway (gateway_faults.Listen key cause))) = ⊥
 RunsOn transition port_transition settings failed old new begun (Err (Gateway gateway_faults.Memory)) = ⊥

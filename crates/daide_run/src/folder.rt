@@ -72,7 +72,7 @@ impl<F: Write + Drop> Write for SessionFile<F> {
 }
 
 /// Reports a notice on standard error. The run goes on if the line cannot be written.
-fn tell<E: Write>(errors: &mut E, notice: RecordNotice) {
+fn log_notice<E: Write>(errors: &mut E, notice: RecordNotice) {
     let _ = writeln!(errors, "daide-gate: {notice}");
 }
 
@@ -279,7 +279,7 @@ impl<'a, R: AllocGlobal + Files> Folder<'a, R> {
         match self.start(session, now) {
             Ok((log, began)) => Recording::new(ports, Some(log), began),
             Err(notice) => {
-                tell(errors, notice);
+                log_notice(errors, notice);
                 Recording::new(ports, None, None)
             }
         }
@@ -287,16 +287,16 @@ impl<'a, R: AllocGlobal + Files> Folder<'a, R> {
 }
 
 /// Reports why the record in a file is not whole, if it is not.
-fn tell_end<F: Drop, E: Write>(file: &SessionFile<F>, end: RecordEnd, errors: &mut E) {
+fn log_end<F: Drop, E: Write>(file: &SessionFile<F>, end: RecordEnd, errors: &mut E) {
     match end {
         RecordEnd::Whole => {}
-        RecordEnd::Failed => tell(errors, RecordNotice::Unwritten(file.number, file.cause)),
-        RecordEnd::Full => tell(errors, RecordNotice::Full(file.number)),
+        RecordEnd::Failed => log_notice(errors, RecordNotice::Unwritten(file.number, file.cause)),
+        RecordEnd::Full => log_notice(errors, RecordNotice::Full(file.number)),
     }
 }
 
 /// Reports that a session's record broke off, if it did, once.
-pub(crate) fn tell_if_ended<P: Ports, F: Write + Drop, E: Write>(
+pub(crate) fn log_if_ended<P: Ports, F: Write + Drop, E: Write>(
     recorded: &Recording<P, SessionFile<F>>,
     errors: &mut E,
 ) {
@@ -304,7 +304,7 @@ pub(crate) fn tell_if_ended<P: Ports, F: Write + Drop, E: Write>(
         return;
     };
     if recorded.has_unreported_end() {
-        tell_end(record.writer(), record.ending(), errors);
+        log_end(record.writer(), record.ending(), errors);
         recorded.note_reported();
     }
 }
@@ -322,7 +322,7 @@ pub(crate) fn end<P: Ports, F: Write + Drop, E: Write>(
         let before = record.ending();
         let (file, end) = record.finish();
         if end != before {
-            tell_end(&file, end, errors);
+            log_end(&file, end, errors);
         }
     }
     ports

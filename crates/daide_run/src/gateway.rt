@@ -148,11 +148,11 @@ pub fn serve_on<A: Memory + Copy, P: Ports, S: System<P>, O: Sink>(
 ) -> Result<(), ServeFault>
     ensures announced { Announces (HasFailed O.Fails) (O.contents output.old) (O.contents output.new) }
     ensures refused { IfErr result (IsServeCause A.Refuses settings.now) }
-    ensures served { OnOk result ((answers : List (SystemCall P))
-        × TransitsBy S.transition system.old answers system.new × IsWholeRun P.transition settings.now answers) }
-    ensures given_up { IfErr result (λ fault. (answers : List (SystemCall P))
-        × TransitsBy S.transition system.old answers system.new
-        × GivesUp A.Refuses P.transition settings.now fault answers) }
+    ensures served { OnOk result ((trace : List (SystemCall P))
+        × TransitsBy S.transition system.old trace system.new × IsWholeRun P.transition settings.now trace) }
+    ensures given_up { IfErr result (λ fault. (trace : List (SystemCall P))
+        × TransitsBy S.transition system.old trace system.new
+        × GivesUp A.Refuses P.transition settings.now fault trace) }
 {
     announce(output);
     serve(alloc, settings, system)

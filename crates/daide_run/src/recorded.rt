@@ -5,7 +5,7 @@ ghost use Rattle.std.specs.Prelude.{◌≡◌, ◌⊎◌, ℕ, []};
 ghost use Rattle.daide_sockets.specs.Lingering.{GoOnFor};
 ghost use Rattle.daide_sockets.specs.Scheduling.{RunEvolves, run_state};
 
-use crate::folder::{Folder, SessionFile, end, tell_if_ended};
+use crate::folder::{Folder, SessionFile, end, log_if_ended};
 use daide_io::{Connect, Network, Notice, Orders, ReadyQueue, SessionEnd, SessionStatus, System};
 use daide_log::{Moment, Recording};
 use daide_sockets::ports::SocketPorts;
@@ -86,10 +86,10 @@ impl<'s, 'w, 'f, N: Network, R: AllocGlobal + Files, C: Clock, E: Write + Drop> 
 impl<'w, N: Network, R: AllocGlobal + Files, C: Clock, E: Write + Drop> System<
     Recording<SocketPorts<'w, N::Connection>, SessionFile<R::File>>,
 > for RecordedSockets<'_, 'w, '_, N, R, C, E> {
-    ghost transition = { λ old answer new. RunEvolves N.transition N.Connection.to_give N.Connection.taken
+    ghost transition = { λ old call new. RunEvolves N.transition N.Connection.to_give N.Connection.taken
         N.Connection.calls (λ ports. ports.ports)
         (run_state (old.sockets.now.poller.network, old.sockets.now.poller.table) (old.sockets.now.idle_time, old.sockets.now.stall_time)
-        old.sockets.now.acceptor old.sockets.now.arrivals.items old.sockets.now.closings) answer
+        old.sockets.now.acceptor old.sockets.now.arrivals.items old.sockets.now.closings) call
         (run_state (new.sockets.now.poller.network, new.sockets.now.poller.table) (new.sockets.now.idle_time, new.sockets.now.stall_time)
         new.sockets.now.acceptor new.sockets.now.arrivals.items new.sockets.now.closings) };
 
@@ -113,7 +113,7 @@ impl<'w, N: Network, R: AllocGlobal + Files, C: Clock, E: Write + Drop> System<
         place: usize,
         ports: &mut Recording<SocketPorts<'w, N::Connection>, SessionFile<R::File>>,
     ) {
-        tell_if_ended(ports, &mut self.sockets.errors);
+        log_if_ended(ports, &mut self.sockets.errors);
         ports.begin_turn(place, self.sockets, self.now);
     }
 
@@ -123,7 +123,7 @@ impl<'w, N: Network, R: AllocGlobal + Files, C: Clock, E: Write + Drop> System<
         place: usize,
         ports: &Recording<SocketPorts<'w, N::Connection>, SessionFile<R::File>>,
     ) -> bool {
-        tell_if_ended(ports, &mut self.sockets.errors);
+        log_if_ended(ports, &mut self.sockets.errors);
         self.sockets.rest(place, ports.ports())
     }
 
@@ -156,12 +156,12 @@ impl<'w, N: Network, R: AllocGlobal + Files, C: Clock, E: Write + Drop> System<
         ports: Recording<SocketPorts<'w, N::Connection>, SessionFile<R::File>>,
         end_of: SessionEnd,
     ) {
-        tell_if_ended(&ports, &mut self.sockets.errors);
+        log_if_ended(&ports, &mut self.sockets.errors);
         let ports = end(ports, &mut self.sockets.errors);
         self.sockets.retire(place, ports, end_of);
     }
 
-    fn tell(&mut self, notice: Notice) {
-        self.sockets.tell(notice);
+    fn log(&mut self, notice: Notice) {
+        self.sockets.log(notice);
     }
 }

@@ -116,17 +116,17 @@ fn serve_bound<
     rt: &R,
     settings: &'w Settings,
     reports: SessionReports<'_, F>,
-    ground: (N, &'w [SocketAddr], SocketTable, &'w Pool),
+    resources: (N, &'w [SocketAddr], SocketTable, &'w Pool),
     output: &mut O,
     errors: E,
 ) -> Result<(), RunFault>
-    requires { AreRowsOf ground.2 [] }
+    requires { AreRowsOf resources.2 [] }
     ensures { RunEnds ⟦<Connection as Duplex>⟧.to_give ⟦<Connection as Duplex>⟧.taken ⟦<Connection as Duplex>⟧.calls
         (λ ports. pair_of ports.ports)
         ⟦<Recording<SocketPorts<'static, Connection>, SessionFile<F::File>> as Ports>⟧.transition settings.now
         (HasFailed O.Fails) (O.contents output.old) (O.contents output.new) result }
 {
-    let Some(mut sockets) = sockets_on(rt.alloc(), settings, ground, errors) else {
+    let Some(mut sockets) = sockets_on(rt.alloc(), settings, resources, errors) else {
         return Err(RunFault::Memory);
     };
     sockets.set_verbose(reports.is_verbose);
@@ -178,8 +178,8 @@ fn serve_sockets<
         pool,
     } = bound;
     begin(settings, &reports, chosen, &mut network, errors);
-    let ground = (network, servers.as_slice(), table, &pool);
-    serve_bound(rt, settings, reports, ground, output, errors)
+    let resources = (network, servers.as_slice(), table, &pool);
+    serve_bound(rt, settings, reports, resources, output, errors)
 }
 
 /// Serves with settings. If there is the path of a folder, a record of each session is kept there. `is_verbose`: whether

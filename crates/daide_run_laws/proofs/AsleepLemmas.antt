@@ -24,7 +24,7 @@ use Rattle.daide_event_loop.proofs.AcceptLemmas.{none_queued, rounds_length}
 use Rattle.daide_event_loop.proofs.RestingLemmas.{resting_sessions_are_idle}
 use Rattle.daide_event_loop.proofs.WaitingLemmas.{is_absent}
 use Rattle.daide_sockets.specs.declared.socket.Socket.{Socket}
-use Rattle.daide_sockets.specs.InTime.{IsAtMost, watching_all}
+use Rattle.daide_sockets.specs.InTime.{IsAtMost, arming_all}
 use Rattle.daide_sockets.specs.Sockets.{is_some_byte}
 use Rattle.daide_sockets.specs.Table.{Table, AreDeadlinesBounded, IsPollTime}
 use Rattle.daide_sockets.specs.Wakeups.{SessionSockets, Wakes, session_due}
@@ -46,12 +46,12 @@ bound_by (Some moment) due h = h
 
 -- a poll that may block ends by the deadline of a place at rest
 pub ends_by : {S : Type 0} (table : Table) (others : List (Bool × Option Instant)) (time : Option Duration) (place : ℕ)
-    (session : SessionSockets S) → IsPollTime true (watching_all table others) time → AreDeadlinesBounded table →
+    (session : SessionSockets S) → IsPollTime true (arming_all table others) time → AreDeadlinesBounded table →
     IsQuiet table place session → (now due : Instant) → table.reading ≡ Some now → session_due session ≡ Some due →
     IsAtMost time (instant_nanos due - instant_nanos now)
 ends_by table others time place session lasts bounded quiet now due read is =
-    by_due (watching_all table others) time now due (same_reading table others ∙ read) lasts
-    (earlier_left (watching_all table others).due (watching_all table others).watched_due due
+    by_due (arming_all table others) time now due (same_reading table others ∙ read) lasts
+    (earlier_left (arming_all table others).due (arming_all table others).armed_due due
     (subst (λ (o : Option Instant). IsBy o due) (sym (same_due table others))
     (bound_by table.due due (subst (IsNotBefore table.due) (quiet.due ∙ is) (bounded place)))))
 
@@ -111,7 +111,7 @@ module _ {P : Type 0} (port_transition : P → PortCall → P → Type 0) where
 module _ {P S : Type 0} (port_transition : P → PortCall → P → Type 0) (view : P → SessionSockets S)
     (settles : PortsSettle port_transition view) where
   one_sleeps : (table : Table) (others : List (Bool × Option Instant)) (time : Option Duration) (place : ℕ)
-      (held : SessionView × QuotaPortsView P) → IsPollTime true (watching_all table others) time →
+      (held : SessionView × QuotaPortsView P) → IsPollTime true (arming_all table others) time →
       RestsAt port_transition table place held (view held.1.ports) → Sleeps table time place held.0 (view held.1.ports)
   one_sleeps table others time place held lasts rests = record {
     reported = none_reported table place (view held.1.ports) rests.quiet;

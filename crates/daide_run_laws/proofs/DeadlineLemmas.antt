@@ -25,7 +25,7 @@ use Rattle.daide_event_loop.specs.QuotaPorts.{QuotaPortsView}
 use Rattle.daide_event_loop.specs.Serving.{Round, fresh}
 use Rattle.daide_event_loop.specs.Served.{run_limits}
 use Rattle.daide_event_loop.specs.Waiting.{MakesNoProgress, IsOfTurn, IsIdleSession}
-use Rattle.daide_sockets.specs.InTime.{watching_all}
+use Rattle.daide_sockets.specs.InTime.{arming_all}
 use Rattle.daide_sockets.specs.Table.{Table, IsPollTime, deadline_at}
 use Rattle.daide_sockets.specs.Timers.{SessionTimers}
 use Rattle.daide_sockets.specs.Times.{is_past}
@@ -127,7 +127,7 @@ module _ {P S : Type 0} (port_transition : P → PortCall → P → Type 0) (tim
 
   one_deadline : (settings : Settings) (calls : List (SystemCall P)) (table : Table) (others : List (Bool × Option Instant))
       (time : Option Duration) (place : ℕ) (held : SessionView × QuotaPortsView P) →
-      IsPollTime true (watching_all table others) time →
+      IsPollTime true (arming_all table others) time →
       RestsAt port_transition table place held (timers held.1.ports).sockets → is_closed held.0 ≡ false → (idle stall : Duration) →
       (timed : IsTimed port_transition timers settings calls idle stall held) →
       BeginsTimed idle stall (timers timed.session.ports) → HasDeadline idle stall table time (timers held.1.ports)
@@ -182,13 +182,13 @@ module _ {P S : Type 0} (port_transition : P → PortCall → P → Type 0) (tim
       slice_get run.slab.places place ≡ Some (Held held) → RestsAt port_transition old.1 place held (view held.1.ports) =
       λ place queued held at. rests_at port_transition network calls view settings n before run first old place held rounds places
       trace queued at in
-      let at_block : (is : Bool) → is ≡ true → IsPollTime is (watching_all old.1 poll.1.0) poll.1.1.time →
+      let at_block : (is : Bool) → is ≡ true → IsPollTime is (arming_all old.1 poll.1.0) poll.1.1.time →
       Round port_transition run (Polls is woken orders ∷ others) next → (place : ℕ) → IfHeldAt run.slab.places place (λ held.
       IsTimed port_transition timers settings before one.0 other.0 held →
       HasDeadline one.0 other.0 old.1 poll.1.1.time (timers held.1.ports)) =
       λ is yes lasts again place held at timed.
       one_deadline settings before old.1 poll.1.0 poll.1.1.time place held
-      (subst (λ (b : Bool). IsPollTime b (watching_all old.1 poll.1.0) poll.1.1.time) yes lasts)
+      (subst (λ (b : Bool). IsPollTime b (arming_all old.1 poll.1.0) poll.1.1.time) yes lasts)
       (at_rest place (none_waits port_transition woken orders others run next
       (subst (λ (b : Bool). Round port_transition run (Polls b woken orders ∷ others) next) yes again) place) held at)
       (rounds_open port_transition settings n before run rounds place held at) one.0 other.0 timed (begins held timed) in

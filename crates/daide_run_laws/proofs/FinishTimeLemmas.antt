@@ -28,12 +28,12 @@ module _ {N C S : Type 0} (transition : N → NetworkCall C → N → Type 0) (t
 
 pub finishing_sockets_leave : {N C P S : Type 0} (transition : N → NetworkCall C → N → Type 0) (to_give taken : S → Option (List ℕ))
     (calls : S → Option (List StreamCall)) → FinishingSocketsLeave transition to_give taken calls P
-finishing_sockets_leave transition to_give taken calls = λ pair old mid answers stall rounds first last none set begins goes made.
+finishing_sockets_leave transition to_give taken calls = λ pair old mid trace stall rounds first last none set begins goes made.
     let later = readings_of_rounds transition to_give taken calls rounds first last made in
-    let run = readings_of (ClosesByClock to_give taken calls pair) answers old mid goes in
+    let run = readings_of (ClosesByClock to_give taken calls pair) trace old mid goes in
     let clock = later ++ run in
     let Own = Since to_give taken calls stall clock in
-    let at_mid = calls_since to_give taken calls stall clock pair answers old mid goes
+    let at_mid = calls_since to_give taken calls stall clock pair trace old mid goes
     (λ reading c. Contains-append_right later run reading c)
     (All-same Own old.closing.streams [] none (All-nil Own), set) in
     let at_last = rounds_since transition to_give taken calls stall clock rounds first last made

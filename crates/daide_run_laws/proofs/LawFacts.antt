@@ -71,29 +71,29 @@ module _ {P S N C : Type 0} (port_transition : P → PortCall → P → Type 0) 
 
 module _ {P S N C : Type 0} (port_transition : P → PortCall → P → Type 0) (transition : N → NetworkCall C → N → Type 0)
     (timers : P → SessionTimers S) (law : DeadlinesPassSeldom port_transition timers transition) (settings : Settings)
-    (answers : List (SystemCall P)) (place : SessionView × QuotaPortsView P)
-    (session : IsServed port_transition settings answers place) (idle stall : Duration) (begun last : RunState N S)
-    (sessions : TransitsBy (Schedules transition timers) begun answers last)
+    (trace : List (SystemCall P)) (place : SessionView × QuotaPortsView P)
+    (session : IsServed port_transition settings trace place) (idle stall : Duration) (begun last : RunState N S)
+    (sessions : TransitsBy (Schedules transition timers) begun trace last)
     (clock : ClockGoesOn port_transition timers idle stall session.history (fresh session.ports settings.turns) place.1 session.answered)
   where
     -- without a byte from a peer a session has at most five turns that begin at or past its deadline
     five_at_most : deliveries session.history ≡ 0 →
         overdue_turns port_transition timers session.history (fresh session.ports settings.turns) place.1 session.answered ≤ 5
     five_at_most none =
-        let all = law settings answers (fresh session.ports settings.turns) session.history place idle stall begun last
+        let all = law settings trace (fresh session.ports settings.turns) session.history place idle stall begun last
         (record { session = session; early = []; history = refl; before = refl; since = session.answered }) sessions clock in
         let least = all.0 in
         let most = all.1 in
         omega (arith, least, most, none)
 
 module _ {P S : Type 0} (port_transition : P → PortCall → P → Type 0) (timers : P → SessionTimers S)
-    (law : TimeoutsStay port_transition timers) (settings : Settings) (answers : List (SystemCall P))
+    (law : TimeoutsStay port_transition timers) (settings : Settings) (trace : List (SystemCall P))
     (mid : QuotaPortsView P) (late : List PortCall) (place : SessionView × QuotaPortsView P)
-    (from : CameFrom port_transition timers settings answers mid late place) where
+    (from : CameFrom port_transition timers settings trace mid late place) where
   -- while a bot sends nothing, its silence is over at the same moment as before
   silence_stays : IsQuietFor port_transition timers Bot late mid place.1 from.since →
       (timers place.1.ports).sockets.bot.silent_from ≡ (timers mid.ports).sockets.bot.silent_from
-  silence_stays quiet = (law settings answers mid late place Bot from quiet).silence
+  silence_stays quiet = (law settings trace mid late place Bot from quiet).silence
 
 module _ {P S N C : Type 0} (port_transition : P → PortCall → P → Type 0) (timers : P → SessionTimers S)
     (calls : S → Option (List StreamCall)) (transition : N → NetworkCall C → N → Type 0)

@@ -386,8 +386,8 @@ pub deadlines_pass_seldom : {P S N C : Type 0} (port_transition : P → PortCall
     PortsSetTimers port_transition timers → (network : N → NetworkCall C → N → Type 0) →
     DeadlinesPassSeldom port_transition timers network
 deadlines_pass_seldom port_transition timers keeps network =
-    λ settings answers mid late place idle stall begun last from sessions clock.
-    let at = begun_with network timers from.session.place from.session.ports answers begun last sessions from.session.came in (
+    λ settings trace mid late place idle stall begun last from sessions clock.
+    let at = begun_with network timers from.session.place from.session.ports trace begun last sessions from.session.came in (
       overdue_left port_transition timers keeps idle stall late mid place.1 from.since clock
           (set_by port_transition timers keeps idle stall from.early (fresh from.session.ports settings.turns) mid from.before
           (begins_stall at.0 begun.times (timers from.session.ports) at.1)),

@@ -22,7 +22,7 @@ use Rattle.daide_driver.specs.Slab.{SlabView, IsAt, is_at, is_kept, is_so, with_
 use Rattle.daide_event_loop.specs.declared.admission_counters.AdmissionCounters.{AdmissionCounters}
 use Rattle.daide_event_loop.specs.QuotaPorts.{QuotaPortsView}
 use Rattle.daide_event_loop.specs.Served.{accept_calls, comes, sum_over_calls}
-use Rattle.daide_event_loop.specs.Serving.{ServiceView, LeavesVisit, TurnsAndLeaves, MeetsBy, VisitsBy, Visits, last_words, parting, end_of}
+use Rattle.daide_event_loop.specs.Serving.{ServiceView, LeavesVisit, TurnsAndLeaves, JoinsBy, VisitsBy, Visits, spent_notice, retirement, end_of}
 use Rattle.daide_event_loop.specs.Serving.{Admits, accepted_at, opening, polled, closed, have_all_come, Round, Rounds, initial_service}
 use Rattle.daide_event_loop.proofs.AcceptLemmas.{rounds_length, visits_places}
 use Rattle.daide_event_loop.proofs.BeginningLemmas.{get_set}
@@ -200,104 +200,104 @@ module _ {P : Type 0} (port_transition : P → PortCall → P → Type 0) where
   IsSettled calls slab = (place : ℕ) → is_at is_kept slab.places place ≡ false → pending_by place false calls ≡ false
 
   leave_calm : (q : ℕ) (closed : Bool) (now : SessionView × QuotaPortsView P) (old : ServiceView P) (place : ℕ)
-      (answers : List (SystemCall P)) (new : ServiceView P) → LeavesVisit closed now old place answers new → All (IsCalm q) answers
-  leave_calm q true now old place answers new h =
-      All-same (IsCalm q) answers (parting place now.1 (end_of now)) h.0
-      (All-push (IsCalm q) (last_words (is_none now.1.turns_left)) (Retires place now.1.ports (end_of now))
+      (trace : List (SystemCall P)) (new : ServiceView P) → LeavesVisit closed now old place trace new → All (IsCalm q) trace
+  leave_calm q true now old place trace new h =
+      All-same (IsCalm q) trace (retirement place now.1 (end_of now)) h.0
+      (All-push (IsCalm q) (spent_notice (is_none now.1.turns_left)) (Retires place now.1.ports (end_of now))
       (spoken (is_none now.1.turns_left)) (λ was. refl))
     where
-      spoken : (b : Bool) → All (IsCalm {P = P} q) (last_words b)
+      spoken : (b : Bool) → All (IsCalm {P = P} q) (spent_notice b)
       spoken true = All-cons (IsCalm q) (Notifies TurnsSpent) [] (λ was. refl) (All-nil (IsCalm q))
       spoken false = All-nil (IsCalm q)
-  leave_calm q false now old place answers new h =
-      all_rests port_transition (IsCalm q) place (λ ports rests was. refl) now.1.made_progress now.1.ports answers h.0 h.1
+  leave_calm q false now old place trace new h =
+      all_rests port_transition (IsCalm q) place (λ ports rests was. refl) now.1.made_progress now.1.ports trace h.0 h.1
 
-  given_calm : (q : ℕ) (old : ServiceView P) (place turns : ℕ) (answers : List (SystemCall P)) (new : ServiceView P) →
-      TurnsAndLeaves port_transition old place turns answers new → All (IsCalm q) answers
-  given_calm q old place turns answers new h =
-      All-same (IsCalm q) answers (h.turning ++ h.leaving) h.asked
+  given_calm : (q : ℕ) (old : ServiceView P) (place turns : ℕ) (trace : List (SystemCall P)) (new : ServiceView P) →
+      TurnsAndLeaves port_transition old place turns trace new → All (IsCalm q) trace
+  given_calm q old place turns trace new h =
+      All-same (IsCalm q) trace (h.turning ++ h.leaving) h.asked
       (All-append (IsCalm q) h.turning h.leaving
       (all_turns port_transition (IsCalm q) place (λ before after was. refl) turns old.slab h.turning h.turned h.takes.made)
       (leave_calm q (is_closed h.now.0) h.now (record old { slab = h.turned }) place h.leaving new h.leaves))
 
   -- calls at one place, after which it is settled
-  settled_at : (calls answers : List (SystemCall P)) (place : ℕ) (old new : SlabView (QuotaPortsView P)) →
-      ChangesOnlyAt place old new → ((q : ℕ) → place ≢ q → All (IsElsewhere q) answers) →
-      (is_at is_kept new.places place ≡ false → pending_by place (pending_by place false calls) answers ≡ false) →
-      IsSettled calls old → IsSettled (calls ++ answers) new
-  settled_at calls answers place old new only elsewhere own settled = λ q none. by q none (place == q) refl
+  settled_at : (calls trace : List (SystemCall P)) (place : ℕ) (old new : SlabView (QuotaPortsView P)) →
+      ChangesOnlyAt place old new → ((q : ℕ) → place ≢ q → All (IsElsewhere q) trace) →
+      (is_at is_kept new.places place ≡ false → pending_by place (pending_by place false calls) trace ≡ false) →
+      IsSettled calls old → IsSettled (calls ++ trace) new
+  settled_at calls trace place old new only elsewhere own settled = λ q none. by q none (place == q) refl
     where
       by : (q : ℕ) → is_at is_kept new.places q ≡ false → (same : Bool) → (place == q) ≡ same →
-          pending_by q false (calls ++ answers) ≡ false
+          pending_by q false (calls ++ trace) ≡ false
       by q none true e =
-          subst (λ (n : ℕ). pending_by n false (calls ++ answers) ≡ false) (eqb-true place q e)
-          (pending_then place false calls answers
+          subst (λ (n : ℕ). pending_by n false (calls ++ trace) ≡ false) (eqb-true place q e)
+          (pending_then place false calls trace
           ∙ own (subst (λ (n : ℕ). is_at is_kept new.places n ≡ false) (sym (eqb-true place q e)) none))
       by q none false e =
           let apart = eqb-false place q e in
-          pending_then q false calls answers ∙ calm_by q (pending_by q false calls) answers
-          (All-weaker (IsElsewhere q) (IsCalm q) (elsewhere_calm q) answers (elsewhere q apart))
+          pending_then q false calls trace ∙ calm_by q (pending_by q false calls) trace
+          (All-weaker (IsElsewhere q) (IsCalm q) (elsewhere_calm q) trace (elsewhere q apart))
           ∙ settled q (ap (λ (at : Option (SlabPlace (SessionView × QuotaPortsView P))). is_so is_kept at)
           (sym (only.beside q (λ same. apart (sym same)))) ∙ none)
 
   visit_settled : (at : Option (SlabPlace (SessionView × QuotaPortsView P))) (calls : List (SystemCall P)) (old : ServiceView P)
-      (place turns : ℕ) (answers : List (SystemCall P)) (new : ServiceView P) → slice_get old.slab.places place ≡ at →
-      VisitsBy port_transition at old place turns answers new → IsSettled calls old.slab → IsSettled (calls ++ answers) new.slab
-  visit_settled at calls old place turns answers new there h settled =
-      settled_at calls answers place old.slab new.slab (visit_there port_transition at old place turns answers new h)
-      (λ q apart. visit_elsewhere port_transition place q apart at old turns answers new h) (own at there h) settled
+      (place turns : ℕ) (trace : List (SystemCall P)) (new : ServiceView P) → slice_get old.slab.places place ≡ at →
+      VisitsBy port_transition at old place turns trace new → IsSettled calls old.slab → IsSettled (calls ++ trace) new.slab
+  visit_settled at calls old place turns trace new there h settled =
+      settled_at calls trace place old.slab new.slab (visit_there port_transition at old place turns trace new h)
+      (λ q apart. visit_elsewhere port_transition place q apart at old turns trace new h) (own at there h) settled
     where
-      before : is_at is_kept old.slab.places place ≡ false → All (IsCalm place) answers →
-          pending_by place (pending_by place false calls) answers ≡ false
-      before none calm = calm_by place (pending_by place false calls) answers calm ∙ settled place none
+      before : is_at is_kept old.slab.places place ≡ false → All (IsCalm place) trace →
+          pending_by place (pending_by place false calls) trace ≡ false
+      before none calm = calm_by place (pending_by place false calls) trace calm ∙ settled place none
 
       kept : (here : Option (SlabPlace (SessionView × QuotaPortsView P))) → slice_get old.slab.places place ≡ here →
           is_so is_kept here ≡ false → is_at is_kept old.slab.places place ≡ false
       kept here e none = ap (λ (o : Option (SlabPlace (SessionView × QuotaPortsView P))). is_so is_kept o) e ∙ none
 
-      met : (connect : Connect P) (told : List (SystemCall P)) → slice_get old.slab.places place ≡ Some Kept →
-          answers ≡ Connects place connect ∷ told → MeetsBy port_transition connect old place turns told new →
-          is_at is_kept new.slab.places place ≡ false → pending_by place (pending_by place false calls) answers ≡ false
-      met (Ready ports) told e asked m none =
+      met : (connect : Connect P) (joining : List (SystemCall P)) → slice_get old.slab.places place ≡ Some Kept →
+          trace ≡ Connects place connect ∷ joining → JoinsBy port_transition connect old place turns joining new →
+          is_at is_kept new.slab.places place ≡ false → pending_by place (pending_by place false calls) trace ≡ false
+      met (Ready ports) joining e asked m none =
           ap (λ (l : List (SystemCall P)). pending_by place (pending_by place false calls) l) asked
-          ∙ ap (λ (b : Bool). pending_by place (not b && pending_by place false calls) told) (eqb_same place)
-          ∙ calm_by place false told (given_calm place (record old { slab = m.0 }) place turns told new m.2)
-      met Failed told e asked m none =
+          ∙ ap (λ (b : Bool). pending_by place (not b && pending_by place false calls) joining) (eqb_same place)
+          ∙ calm_by place false joining (given_calm place (record old { slab = m.0 }) place turns joining new m.2)
+      met Failed joining e asked m none =
           ap (λ (l : List (SystemCall P)). pending_by place (pending_by place false calls) l) asked
-          ∙ ap (λ (b : Bool). pending_by place (not b && pending_by place false calls) told) (eqb_same place)
+          ∙ ap (λ (b : Bool). pending_by place (not b && pending_by place false calls) joining) (eqb_same place)
           ∙ ap (λ (l : List (SystemCall P)). pending_by place false l) m.1
-      met Pending told e asked m none =
+      met Pending joining e asked m none =
           let still : is_at is_kept new.slab.places place ≡ true =
           ap (λ (s : ServiceView P). is_at is_kept s.slab.places place) m.2
           ∙ ap (λ (o : Option (SlabPlace (SessionView × QuotaPortsView P))). is_so is_kept o) e in
           absurd (cc)
 
       own : (here : Option (SlabPlace (SessionView × QuotaPortsView P))) → slice_get old.slab.places place ≡ here →
-          VisitsBy port_transition here old place turns answers new →
-          is_at is_kept new.slab.places place ≡ false → pending_by place (pending_by place false calls) answers ≡ false
-      own None e v none = before (kept None e refl) (All-same (IsCalm place) answers [] v.1 (All-nil (IsCalm place)))
-      own (Some Free) e v none = before (kept (Some Free) e refl) (All-same (IsCalm place) answers [] v.1 (All-nil (IsCalm place)))
+          VisitsBy port_transition here old place turns trace new →
+          is_at is_kept new.slab.places place ≡ false → pending_by place (pending_by place false calls) trace ≡ false
+      own None e v none = before (kept None e refl) (All-same (IsCalm place) trace [] v.1 (All-nil (IsCalm place)))
+      own (Some Free) e v none = before (kept (Some Free) e refl) (All-same (IsCalm place) trace [] v.1 (All-nil (IsCalm place)))
       own (Some Kept) e v none = met v.0 v.1 e v.2 v.3 none
       own (Some (Held now)) e v none =
-          before (kept (Some (Held now)) e refl) (given_calm place old place turns answers new v)
+          before (kept (Some (Held now)) e refl) (given_calm place old place turns trace new v)
 
-  visits_settled : (calls : List (SystemCall P)) (visited : List ℕ) (turns : ℕ) (old : ServiceView P) (answers : List (SystemCall P))
-      (new : ServiceView P) → Visits port_transition visited turns old answers new → IsSettled calls old.slab →
-      IsSettled (calls ++ answers) new.slab
-  visits_settled calls [] turns old answers new h settled =
+  visits_settled : (calls : List (SystemCall P)) (visited : List ℕ) (turns : ℕ) (old : ServiceView P) (trace : List (SystemCall P))
+      (new : ServiceView P) → Visits port_transition visited turns old trace new → IsSettled calls old.slab →
+      IsSettled (calls ++ trace) new.slab
+  visits_settled calls [] turns old trace new h settled =
       subst (λ (l : List (SystemCall P)). IsSettled (calls ++ l) new.slab) (sym h.1)
       (subst (λ (s : ServiceView P). IsSettled (calls ++ []) s.slab) (sym h.2)
       (subst (λ (l : List (SystemCall P)). IsSettled l old.slab) (sym (append-nil calls)) settled))
-  visits_settled calls (place ∷ earlier) turns old answers new h settled =
+  visits_settled calls (place ∷ earlier) turns old trace new h settled =
       subst (λ (l : List (SystemCall P)). IsSettled l new.slab)
       (append_assoc calls h.3 h.4 ∙ ap (λ (l : List (SystemCall P)). calls ++ l) (sym h.6))
       (visit_settled (slice_get h.0.slab.places place) (calls ++ h.3) (record h.0 { ready = h.8.ready }) place h.2 h.4 new refl h.8.visits
       (visits_settled calls earlier h.1 old h.3 h.0 h.7 settled))
 
   -- when a round accepts a bot
-  mid_settled : (calls answers : List (SystemCall P)) (old new : ServiceView P) (r : Round port_transition old answers new) →
+  mid_settled : (calls trace : List (SystemCall P)) (old new : ServiceView P) (r : Round port_transition old trace new) →
       IsSettled calls old.slab → IsSettled (calls ++ (opening r.woken r.orders old ++ r.visiting)) r.mid.slab
-  mid_settled calls answers old new r settled =
+  mid_settled calls trace old new r settled =
       let opens = opening r.woken r.orders old in
       let begun : IsSettled (calls ++ opens) old.slab =
       λ place none.
@@ -309,13 +309,13 @@ module _ {P : Type 0} (port_transition : P → PortCall → P → Type 0) where
       subst (λ (l : List (SystemCall P)). IsSettled l r.mid.slab) (append_assoc calls opens r.visiting)
       (visits_settled (calls ++ opens) r.visits.visited r.visits.turns (polled r.woken r.orders old) r.visiting r.mid r.visits.takes begun)
 
-  admits_settled : (calls : List (SystemCall P)) (old : ServiceView P) (answers : List (SystemCall P)) (new : ServiceView P) →
-      Admits old answers new → IsSettled calls old.slab → IsSettled (calls ++ answers) new.slab
-  admits_settled calls old answers new (inr none) settled =
+  admits_settled : (calls : List (SystemCall P)) (old : ServiceView P) (trace : List (SystemCall P)) (new : ServiceView P) →
+      Admits old trace new → IsSettled calls old.slab → IsSettled (calls ++ trace) new.slab
+  admits_settled calls old trace new (inr none) settled =
       subst (λ (l : List (SystemCall P)). IsSettled (calls ++ l) new.slab) (sym none.1)
       (subst (λ (s : ServiceView P). IsSettled (calls ++ []) s.slab) (sym none.2)
       (subst (λ (l : List (SystemCall P)). IsSettled l old.slab) (sym (append-nil calls)) settled))
-  admits_settled calls old answers new (inl asks) settled =
+  admits_settled calls old trace new (inl asks) settled =
       subst (λ (l : List (SystemCall P)). IsSettled (calls ++ l) new.slab) (sym asks.asked)
       (subst (λ (s : ServiceView P). IsSettled (calls ++ Accepts asks.place asks.came ∷ []) s.slab) (sym asks.then_kept) (by asks.came))
     where

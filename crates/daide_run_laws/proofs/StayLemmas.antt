@@ -148,5 +148,5 @@ module _ {P S : Type 0} (port_transition : P → PortCall → P → Type 0) (tim
 pub timeouts_stay : {P S : Type 0} (port_transition : P → PortCall → P → Type 0) (timers : P → SessionTimers S) →
     PortsSetTimers port_transition timers → TimeoutsStay port_transition timers
 timeouts_stay port_transition timers keeps =
-    λ settings answers mid late place side from quiet.
+    λ settings trace mid late place side from quiet.
     all_stay port_transition timers keeps side late mid place.1 from.since quiet

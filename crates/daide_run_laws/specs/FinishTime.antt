@@ -21,9 +21,9 @@ module _ {N C S : Type 0} (transition : N → NetworkCall C → N → Type 0) (t
   -- Sockets of a run of which none closed, after any trace of system calls and then any number of the rounds at its end: each
   -- stream that still closes is in time, by the readings of both. `pair` is the content of ports.
   abbrev pub FinishingSocketsLeave : Type 0 → Type 0
-  FinishingSocketsLeave P = (pair : P → Paired S) (old mid : RunState N S) (answers : List (SystemCall P)) (stall : Duration)
+  FinishingSocketsLeave P = (pair : P → Paired S) (old mid : RunState N S) (trace : List (SystemCall P)) (stall : Duration)
       (rounds : ℕ) (first last : Finish N S) → old.closing.streams ≡ [] → old.closing.stall_time ≡ Some stall →
-      first.closing ≡ mid.closing → (by : TransitsBy (ClosesByClock to_give taken calls pair) old answers mid) →
+      first.closing ≡ mid.closing → (by : TransitsBy (ClosesByClock to_give taken calls pair) old trace mid) →
       (made : FinishesFor transition to_give taken calls rounds first last) →
       All (IsClosingInTime to_give taken calls stall (readings_of_rounds rounds first last made
-      ++ readings_of (ClosesByClock to_give taken calls pair) answers old mid by)) last.closing.streams
+      ++ readings_of (ClosesByClock to_give taken calls pair) trace old mid by)) last.closing.streams

@@ -127,17 +127,17 @@ module _ {P S : Type 0} (transition : P → PortCall → P → Type 0) (timers :
   ClockGoesOn idle stall (Offered side bytes put ∷ calls) old new by = ClockGoesOn idle stall calls by.0 new by.2
 
   -- a session of a run that began at a reading of the clock, while the clock goes on
-  pub record IsTimed (settings : Settings) (answers : List (SystemCall P)) (idle stall : Duration)
+  pub record IsTimed (settings : Settings) (trace : List (SystemCall P)) (idle stall : Duration)
       (place : SessionView × QuotaPortsView P) : Type 0 where
-    pub session : IsServed transition settings answers place
+    pub session : IsServed transition settings trace place
     pub start : Instant
     pub begun : IsReading idle stall (timers session.ports).sockets.reading start
     pub clock : ClockGoesOn idle stall session.history (fresh session.ports settings.turns) place.1 session.answered
 
   -- A session of a run had ports of this value, and came from there to its present value by these calls.
-  pub record CameFrom (settings : Settings) (answers : List (SystemCall P)) (mid : QuotaPortsView P) (late : List PortCall)
+  pub record CameFrom (settings : Settings) (trace : List (SystemCall P)) (mid : QuotaPortsView P) (late : List PortCall)
       (place : SessionView × QuotaPortsView P) : Type 0 where
-    pub session : IsServed transition settings answers place
+    pub session : IsServed transition settings trace place
     pub early : List PortCall
     pub history : session.history ≡ early ++ late
     pub before : EvolvesBy (Meters transition) (fresh session.ports settings.turns) early mid
@@ -156,10 +156,10 @@ module _ {P S : Type 0} (transition : P → PortCall → P → Type 0) (timers :
     pub stall_lasts : IsSeconds settings.stall_seconds stall
     pub others : List (Bool × Option Instant)
     pub polls : PollsForPlaces network others may_block woken old.0 old.1 new.0 new.1
-    pub deadlines : may_block ≡ true → (place : ℕ) → IfHeldAt run.slab.places place (λ held.
-        IsTimed settings calls idle stall held → HasDeadline idle stall old.1 polls.time (timers held.1.ports))
-    pub late : (place : ℕ) → is_queued run.ready place ≡ false → IfHeldAt run.slab.places place (λ held.
-        is_past new.1.reading (session_due (timers held.1.ports).sockets) ≡ true → is_among place woken ≡ true)
+    pub deadlines : may_block ≡ true → (place : ℕ) → IfHeldAt run.slab.places place (λ item.
+        IsTimed settings calls idle stall item → HasDeadline idle stall old.1 polls.time (timers item.1.ports))
+    pub late : (place : ℕ) → is_queued run.ready place ≡ false → IfHeldAt run.slab.places place (λ item.
+        is_past new.1.reading (session_due (timers item.1.ports).sockets) ≡ true → is_among place woken ≡ true)
 
   -- Each poll of a run over sockets, whose settings have both timeouts, is made by deadlines. Its sockets began with the
   -- timeouts of the settings, and a table has a deadline for each place.
@@ -188,8 +188,8 @@ module _ {P S : Type 0} (transition : P → PortCall → P → Type 0) (timers :
   -- Take a session of a run, from any of its calls on. While no byte comes from a side's peer or goes to it, its silence
   -- is over when it was to be over, and a stall timeout that runs expires when it was to expire, unless the wire fails.
   abbrev pub TimeoutsStay : Type 0
-  TimeoutsStay = (settings : Settings) (answers : List (SystemCall P)) (mid : QuotaPortsView P) (late : List PortCall)
-      (place : SessionView × QuotaPortsView P) (side : Side) → (from : CameFrom settings answers mid late place) →
+  TimeoutsStay = (settings : Settings) (trace : List (SystemCall P)) (mid : QuotaPortsView P) (late : List PortCall)
+      (place : SessionView × QuotaPortsView P) (side : Side) → (from : CameFrom settings trace mid late place) →
       IsQuietFor side late mid place.1 from.since →
       KeepsTimeouts (socket_at (timers mid.ports).sockets side) (socket_at (timers place.1.ports).sockets side)
 
@@ -212,9 +212,9 @@ module _ {P S : Type 0} (transition : P → PortCall → P → Type 0) (timers :
   -- Take a session of a run, from any of its calls on. Each turn that begins at or past its deadline takes one of the
   -- timeouts that are left, and each pull that returns bytes gives back at most one.
   abbrev pub DeadlinesPassSeldom : {N C : Type 0} → (N → NetworkCall C → N → Type 0) → Type 0
-  DeadlinesPassSeldom {N} network = (settings : Settings) (answers : List (SystemCall P)) (mid : QuotaPortsView P)
+  DeadlinesPassSeldom {N} network = (settings : Settings) (trace : List (SystemCall P)) (mid : QuotaPortsView P)
       (late : List PortCall) (place : SessionView × QuotaPortsView P) (idle stall : Duration) (begun last : RunState N S) →
-      (from : CameFrom settings answers mid late place) → TransitsBy (Schedules network timers) begun answers last →
+      (from : CameFrom settings trace mid late place) → TransitsBy (Schedules network timers) begun trace last →
       ClockGoesOn idle stall late mid place.1 from.since →
       (overdue_turns late mid place.1 from.since + timeouts_left (timers place.1.ports)
       ≤ timeouts_left (timers mid.ports) + deliveries late)

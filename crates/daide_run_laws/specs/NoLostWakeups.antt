@@ -49,7 +49,7 @@ pub record PollsAsleep {P S N C : Type 0} (transition : N → NetworkCall C → 
     (places : List (SlabPlace (SessionView × QuotaPortsView P))) (woken : List ℕ) (old new : N × Table) : Type 0 where
   pub others : List (Bool × Option Instant)
   pub polls : PollsForPlaces transition others true woken old.0 old.1 new.0 new.1
-  pub asleep : (place : ℕ) → IfHeldAt places place (λ held. Sleeps old.1 polls.time place held.0 (view held.1.ports))
+  pub asleep : (place : ℕ) → IfHeldAt places place (λ item. Sleeps old.1 polls.time place item.0 (view item.1.ports))
 
 -- Each poll of a run over sockets that may block polls asleep. A table has a deadline for each place. `view` is the content
 -- of ports.

@@ -52,9 +52,9 @@ pub use Rattle.daide_protocol.specs.Machine.{level_in, frame_outcome, answered, 
 pub use Rattle.daide_protocol.specs.Machine.{side2_of, initial_state, Transition, header_outcome, event_outcome}
 pub use Rattle.daide_protocol.specs.Passing.{IsFrame, HasCome, IsWithinPrn, IsWithinHuh, MayBeSent, no_message, passed}
 pub use Rattle.daide_protocol.specs.Passing.{within_prn, within_huh}
-pub use Rattle.daide_protocol.specs.Weight.{tokens_held, steps_bound}
+pub use Rattle.daide_protocol.specs.Weight.{frame_tokens, steps_bound}
 pub use Rattle.daide_protocol.specs.Wires.{SessionView, queued, frames_to, is_awaited, Holding, account_after, holding}
-pub use Rattle.daide_protocol.specs.Wires.{sent_to, note_of, held_after, is_dm_head, Refines, sent_bytes, IsFrontOf}
+pub use Rattle.daide_protocol.specs.Wires.{sent_to, note_of, frame_bytes_after, is_dm_head, Refines, sent_bytes, IsFrontOf}
 pub use Rattle.daide_protocol.specs.Wires.{no_frame, parts_of, Lost, steps_of}
 unfoldable pub use Rattle.daide_protocol.specs.Wires.{room_of}
 pub use Rattle.daide_protocol.specs.declared.account.Account.{Account}

@@ -6,7 +6,7 @@ use Rattle.daide_session.proofs.Common.{Side, Bot, Server, Head, Step, FrameEven
 use Rattle.daide_session.proofs.Common.{head_in-short, Verdict, IsRaised, Note, other, bytes_come, Sent, Effect}
 use Rattle.daide_session.proofs.Common.{Successor, SessionState, Coming, Runs, IsCorrectVerdict, coming, with_pending}
 use Rattle.daide_session.proofs.Common.{is_over, asked_by, Account, accounted, SessionView, Holding, account_after}
-use Rattle.daide_session.proofs.Common.{queued, holding, sent_to, note_of, held_after, is_dm_head, Refines}
+use Rattle.daide_session.proofs.Common.{queued, holding, sent_to, note_of, frame_bytes_after, is_dm_head, Refines}
 use Rattle.daide_session.proofs.Common.{ProtocolState, at, Channels, pending, state_of, view_of, Asks}
 use Rattle.daide_session.proofs.Common.{HandlesFrameEvents, IsPaidBy, tokens_ended}
 use Rattle.daide_frame.specs.declared.cutter.Step.TheVariants.{More, Headed, Bodied, Fault}
@@ -182,9 +182,9 @@ unread_before limit b x piece h = ⊎_elim
 
 -- a side's held bytes after a piece
 record TakesIn (limit : ℕ) (piece : List ℕ) (note : Note) (old new : Holding) : Type 0 where
-  bytes : new.held ≡ held_after note (fed limit old.held piece)
-  base : new.total_before ≡ counts_from (head_in limit old.held) (head_in limit (fed limit old.held piece)) old
-  no_message : is_dm_head (head_in limit (fed limit old.held piece)) ≡ false → new.total ≡ old.total
+  bytes : new.frame_bytes ≡ frame_bytes_after note (fed limit old.frame_bytes piece)
+  base : new.total_before ≡ counts_from (head_in limit old.frame_bytes) (head_in limit (fed limit old.frame_bytes piece)) old
+  no_message : is_dm_head (head_in limit (fed limit old.frame_bytes piece)) ≡ false → new.total ≡ old.total
   raised : IsRaised (asked_at_most piece) old.total new.total
   looked_at : IsRaised (looked_at_most piece) old.looked_at new.looked_at
 
@@ -192,17 +192,17 @@ takes_in : (limit : ℕ) (a b : ReceiveState) (new : Holding) (x : ℕ) (piece :
     IsGrown limit a (fed limit a.coming.pending (x ∷ piece)) b →
     IsRaised (4 * tokens_ended limit a.coming.pending (x ∷ piece)) a.holding.total b.holding.total →
     IsRaised (looked_at_most (x ∷ piece)) a.holding.looked_at b.holding.looked_at →
-    new.held ≡ held_after note b.holding.held → Asks limit b.holding new →
+    new.frame_bytes ≡ frame_bytes_after note b.holding.frame_bytes → Asks limit b.holding new →
     TakesIn limit (x ∷ piece) note a.holding new
-takes_in limit a b new x piece note pending raised looked_at held asks = record {
-  bytes = held ∙ ap (held_after note) grown.held;
+takes_in limit a b new x piece note pending raised looked_at frame_bytes asks = record {
+  bytes = frame_bytes ∙ ap (frame_bytes_after note) grown.frame_bytes;
   base = ⊎_elim
       (λ (e : new.total_before ≡ b.holding.total_before). e ∙ grown.base)
-      (λ (e : HasNoMessageBytes limit b.holding.held × (new.total_before ≡ b.holding.total)).
-      from_now (subst (λ (y : List ℕ). HasNoMessageBytes limit y) grown.held e.0) e.1)
+      (λ (e : HasNoMessageBytes limit b.holding.frame_bytes × (new.total_before ≡ b.holding.total)).
+      from_now (subst (λ (y : List ℕ). HasNoMessageBytes limit y) grown.frame_bytes e.0) e.1)
       asks.base
-      ∙ sym (counts_idle (head_in limit a.holding.held) (head_in limit fed_bytes) a.holding uncounted);
-  no_message = λ none. asks.no_message (ap (λ (y : List ℕ). is_dm_head (head_in limit y)) grown.held ∙ none)
+      ∙ sym (counts_idle (head_in limit a.holding.frame_bytes) (head_in limit fed_bytes) a.holding uncounted);
+  no_message = λ none. asks.no_message (ap (λ (y : List ℕ). is_dm_head (head_in limit y)) grown.frame_bytes ∙ none)
       ∙ grown.no_message none;
   raised = raised_more (4 * tokens_ended limit a.coming.pending (x ∷ piece)) 4 (asked_at_most (x ∷ piece))
       a.holding.total b.holding.total new.total
@@ -212,12 +212,12 @@ takes_in limit a b new x piece note pending raised looked_at held asks = record 
 }
   where
     fed_bytes : List ℕ
-    fed_bytes = fed limit a.holding.held (x ∷ piece)
+    fed_bytes = fed limit a.holding.frame_bytes (x ∷ piece)
 
     grown : IsGrown limit a fed_bytes b
     grown = subst (λ (y : List ℕ). IsGrown limit a (fed limit y (x ∷ piece)) b) (sym pending.held_before) pending
 
-    uncounted : is_dm_head (head_in limit a.holding.held) ≡ false → a.holding.total_before ≡ a.holding.total
+    uncounted : is_dm_head (head_in limit a.holding.frame_bytes) ≡ false → a.holding.total_before ≡ a.holding.total
     uncounted e =
         grown.uncounted (ap (λ (y : List ℕ). is_dm_head (head_in limit y)) (sym grown.held_before) ∙ e)
 
@@ -227,7 +227,7 @@ takes_in limit a b new x piece note pending raised looked_at held asks = record 
     from_now unread e = e ∙ (⊎_elim
         (λ (none : drop 4 fed_bytes ≡ []). grown.bodiless none)
         (λ (none : is_dm_head (head_in limit fed_bytes) ≡ false). grown.no_message none)
-        unread ∙ sym (uncounted (unread_before limit a.holding.held x piece unread)))
+        unread ∙ sym (uncounted (unread_before limit a.holding.frame_bytes x piece unread)))
 
 takes_piece : (t u v : Channels) (s r : ProtocolState) (side : Side) (x : ℕ) (piece : List ℕ) (items : List FrameEvent)
     (note : Note) → Keeps side t u →
@@ -257,7 +257,7 @@ takes_piece t u v s r side x piece items note keeps grown raised looked_at h = r
     taken : TakesIn t.cap (x ∷ piece) note (holding (view_of t s) side) now
     taken = subst (λ (k : Holding). TakesIn t.cap (x ∷ piece) note k now) (sym (holding_at t s side))
         (takes_in t.cap (at t.sides side) (at u.sides side) now x piece note grown raised looked_at
-        (h.held ∙ ap (λ (k : Holding). held_after note k.held) (holding_at u s side)) asks)
+        (h.frame_bytes ∙ ap (λ (k : Holding). frame_bytes_after note k.frame_bytes) (holding_at u s side)) asks)
 
 -- the same for any piece with at least one byte
 pub takes_some : (t u v : Channels) (s r : ProtocolState) (side : Side) (piece : List ℕ) (items : List FrameEvent) (note : Note) →
@@ -285,9 +285,9 @@ pub piece_worked : (t u v : Channels) (s r : ProtocolState) (side : Side) (piece
 piece_worked t u v s r side piece items step note limits wanted keeps grown raised full unasked h =
     fed_paid side (view_of t s) (view_of v r) mid piece note limits
     (subst (λ (b : List ℕ). 0 < missing t.cap b) (sym before) wanted)
-    (h.held ∙ ap (λ (k : Holding). held_after note k.held) (holding_at u s side)
-    ∙ ap (held_after note) (now ∙ ap (λ (b : List ℕ). fed t.cap b piece) (sym before)))
-    (subst (λ (k : Holding). IsRaised (4 * tokens_ended t.cap k.held piece) k.total mid.total) (sym (holding_at t s side))
+    (h.frame_bytes ∙ ap (λ (k : Holding). frame_bytes_after note k.frame_bytes) (holding_at u s side)
+    ∙ ap (frame_bytes_after note) (now ∙ ap (λ (b : List ℕ). fed t.cap b piece) (sym before)))
+    (subst (λ (k : Holding). IsRaised (4 * tokens_ended t.cap k.frame_bytes piece) k.total mid.total) (sym (holding_at t s side))
     (subst (λ (b : List ℕ). IsRaised (4 * tokens_ended t.cap b piece) (at t.sides side).holding.total mid.total)
     (sym grown.held_before) raised))
     (subst (λ (b : List ℕ). IsRaised (at_end t.cap b) mid.total (holding (view_of v r) side).total)
@@ -298,17 +298,17 @@ piece_worked t u v s r side piece items step note limits wanted keeps grown rais
     mid : Holding
     mid = (at u.sides side).holding
 
-    before : (holding (view_of t s) side).held ≡ pending t side
-    before = ap (λ (k : Holding). k.held) (holding_at t s side) ∙ grown.held_before
+    before : (holding (view_of t s) side).frame_bytes ≡ pending t side
+    before = ap (λ (k : Holding). k.frame_bytes) (holding_at t s side) ∙ grown.held_before
 
-    now : mid.held ≡ fed t.cap (pending t side) piece
-    now = grown.held
+    now : mid.frame_bytes ≡ fed t.cap (pending t side) piece
+    now = grown.frame_bytes
 
     asks : Asks t.cap mid (holding (view_of v r) side)
     asks = subst (λ (n : ℕ). Asks n mid (holding (view_of v r) side)) keeps.cap
         (subst (λ (k : Holding). Asks u.cap k (holding (view_of v r) side)) (holding_at u s side) h.asks)
 
-    whole : HoldsFrame step (head_in t.cap mid.held) (drop 4 mid.held)
+    whole : HoldsFrame step (head_in t.cap mid.frame_bytes) (drop 4 mid.frame_bytes)
     whole =
         subst (λ (b : List ℕ). HoldsFrame step (head_in t.cap b) (drop 4 b))
         (ap (λ (c : Coming). c.pending) grown.coming ∙ sym now)
@@ -337,7 +337,7 @@ pub takes_nothing : (g : SessionView) (side : Side) (piece : List ℕ) → lengt
 takes_nothing g side [] e = record {
   nothing = λ _. refl;
   bytes = refl;
-  base = sym (counts_same (head_in g.state.limits.cap (holding g side).held) (holding g side));
+  base = sym (counts_same (head_in g.state.limits.cap (holding g side).frame_bytes) (holding g side));
   no_message = λ _. refl;
   raised = raised_none (holding g side).total (holding g side).total refl;
   looked_at = raised_none (holding g side).looked_at (holding g side).looked_at refl;

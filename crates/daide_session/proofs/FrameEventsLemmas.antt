@@ -7,7 +7,7 @@ use Rattle.daide_session.proofs.Common.{Successor, SessionState, Coming, with_no
 use Rattle.daide_session.proofs.Common.{with_pending, frame_outcome, answered, im_answered, reply_to, deed_of}
 use Rattle.daide_session.proofs.Common.{IsCorrectVerdict, Account, Deed, frame_accounted, accounted, name_after, Words}
 use Rattle.daide_session.proofs.Common.{SessionView, Holding, account_after, queued, holding, sent_to, note_of}
-use Rattle.daide_session.proofs.Common.{held_after, is_dm_head, frames_to, tokens_held, ProtocolState, PerSide, at}
+use Rattle.daide_session.proofs.Common.{frame_bytes_after, is_dm_head, frames_to, frame_tokens, ProtocolState, PerSide, at}
 use Rattle.daide_session.proofs.Common.{ReaderLimits, Channels, pending, posted, state_of, view_of, HandlesFrameEvents}
 use Rattle.daide_protocol.specs.declared.note.Deed.TheVariants.{Dropped}
 use Rattle.daide_reader.proofs.ReadingLemmas.{raised_none}
@@ -69,7 +69,7 @@ noted_state t u s Server keeps e = rw (keeps.cap, keeps.rules, keeps.other_side,
 -- a timely header whose body is still empty
 pub begun_alone : (t u : Channels) (s : ProtocolState) (side : Side) (head : Head) → is_over s.phase ≡ false →
     untimely s.phase side head.kind ≡ None → drop 4 (pending t side) ≡ [] →
-    (at t.sides side).holding.held ≡ pending t side → StartsMessage side t s u s →
+    (at t.sides side).holding.frame_bytes ≡ pending t side → StartsMessage side t s u s →
     HandlesFrameEvents (view_of t s) side (Begun head ∷ []) Notes.Nothing (view_of u s)
 begun_alone t u s side head live timely bodiless tied b = record {
   verdict = Relay;
@@ -81,10 +81,10 @@ begun_alone t u s side head live timely bodiless tied b = record {
     counts = rw (live, timely) refl;
   };
   note = rw (live, timely) refl;
-  held = rw (holding_at u s side, holding_at t s side) b.started.held;
+  frame_bytes = rw (holding_at u s side, holding_at t s side) b.started.frame_bytes;
   asks = record {
     base = inr (
-      inl (ap (λ (h : Holding). drop 4 h.held) (holding_at t s side) ∙ (ap (drop 4) tied ∙ bodiless)),
+      inl (ap (λ (h : Holding). drop 4 h.frame_bytes) (holding_at t s side) ∙ (ap (drop 4) tied ∙ bodiless)),
       rw (holding_at u s side, holding_at t s side) b.started.base,
     );
     raised = raised_none _ _ total;
@@ -118,7 +118,7 @@ begun_late o n side head note code late h = record {
     counts = h.moves.counts ∙ ap (λ (x : Successor). account_after o x.effects) same;
   };
   note = h.note ∙ ap (λ (x : Successor). note_of x.effects) same;
-  held = h.held;
+  frame_bytes = h.frame_bytes;
   asks = h.asks;
   other_side = h.other_side;
 }
@@ -128,7 +128,7 @@ begun_late o n side head note code late h = record {
     same = rw late refl
 
 pub begun_and_empty : (t u v : Channels) (s r q : ProtocolState) (side : Side) (head : Head) (note : Note) →
-    is_over s.phase ≡ false → untimely s.phase side head.kind ≡ None → drop 4 (at t.sides side).holding.held ≡ [] →
+    is_over s.phase ≡ false → untimely s.phase side head.kind ≡ None → drop 4 (at t.sides side).holding.frame_bytes ≡ [] →
     StartsMessage side t s u r →
     HandlesFrameEvents (view_of u r) side (Whole head [] ∷ []) note (view_of v q) →
     HandlesFrameEvents (view_of t s) side (Begun head ∷ Whole head [] ∷ []) note (view_of v q)
@@ -145,12 +145,12 @@ begun_and_empty t u v s r q side head note live timely bodiless b h = record {
         ∙ ap (λ (o : Successor). account_after (view_of t s) o.effects) same);
   };
   note = h.note ∙ ap (λ (o : Successor). note_of o.effects) same;
-  held = h.held ∙ ap (held_after note) held;
+  frame_bytes = h.frame_bytes ∙ ap (frame_bytes_after note) frame_bytes;
   asks = record {
     base = ⊎_elim
         (λ (e : (holding (view_of v q) side).total_before ≡ (holding (view_of u r) side).total_before).
         inr (unread, e ∙ base))
-        (λ (e : HasNoMessageBytes u.cap (holding (view_of u r) side).held
+        (λ (e : HasNoMessageBytes u.cap (holding (view_of u r) side).frame_bytes
         × ((holding (view_of v q) side).total_before ≡ (holding (view_of u r) side).total)).
         inr (unread, e.1 ∙ total))
         h.asks.base;
@@ -180,8 +180,8 @@ begun_and_empty t u v s r q side head note live timely bodiless b h = record {
     waited : (wire : Side) → queued (view_of u r) wire ≡ queued (view_of t s) wire
     waited wire = waits_same t u s r wire b.queued
 
-    held : (holding (view_of u r) side).held ≡ (holding (view_of t s) side).held
-    held = rw (holding_at u r side, holding_at t s side) b.started.held
+    frame_bytes : (holding (view_of u r) side).frame_bytes ≡ (holding (view_of t s) side).frame_bytes
+    frame_bytes = rw (holding_at u r side, holding_at t s side) b.started.frame_bytes
 
     base : (holding (view_of u r) side).total_before ≡ (holding (view_of t s) side).total
     base = rw (holding_at u r side, holding_at t s side) b.started.base
@@ -192,13 +192,13 @@ begun_and_empty t u v s r q side head note live timely bodiless b h = record {
     looked_at : (holding (view_of u r) side).looked_at ≡ (holding (view_of t s) side).looked_at
     looked_at = rw (holding_at u r side, holding_at t s side) b.started.looked_at
 
-    unread : HasNoMessageBytes t.cap (holding (view_of t s) side).held
-    unread = inl (ap (λ (h : Holding). drop 4 h.held) (holding_at t s side) ∙ bodiless)
+    unread : HasNoMessageBytes t.cap (holding (view_of t s) side).frame_bytes
+    unread = inl (ap (λ (h : Holding). drop 4 h.frame_bytes) (holding_at t s side) ∙ bodiless)
 
-    head_same : is_dm_head (head_in u.cap (holding (view_of u r) side).held)
-        ≡ is_dm_head (head_in t.cap (holding (view_of t s) side).held)
-    head_same = ap (λ (n : ℕ). is_dm_head (head_in n (holding (view_of u r) side).held)) b.keeps.cap
-        ∙ ap (λ (x : List ℕ). is_dm_head (head_in t.cap x)) held
+    head_same : is_dm_head (head_in u.cap (holding (view_of u r) side).frame_bytes)
+        ≡ is_dm_head (head_in t.cap (holding (view_of t s) side).frame_bytes)
+    head_same = ap (λ (n : ℕ). is_dm_head (head_in n (holding (view_of u r) side).frame_bytes)) b.keeps.cap
+        ∙ ap (λ (x : List ℕ). is_dm_head (head_in t.cap x)) frame_bytes
 
 -- ---- a whole frame that is dropped
 
@@ -231,7 +231,7 @@ moved_state t u s Server phase account keeps e = rw (keeps.cap, keeps.rules, kee
 pub dropped_whole : (t u : Channels) (s : ProtocolState) (side : Side) (head : Head) (body : List ℕ)
     (phase : SessionPhase) →
     is_over s.phase ≡ false → is_sent s.phase head.kind (other side) ≡ false →
-    (at t.sides side).holding.held ≡ pending t side → head_in t.cap (pending t side) ≡ Some head →
+    (at t.sides side).holding.frame_bytes ≡ pending t side → head_in t.cap (pending t side) ≡ Some head →
     phase ≡ phase_after s.top_level head.kind side Relay [] s.phase → Keeps side t u → u.queued ≡ t.queued →
     IsCleared (at t.sides side) (at u.sides side) →
     HandlesFrameEvents (view_of t s) side (Whole head body ∷ []) (Notes.Frame head Dropped)
@@ -247,10 +247,10 @@ dropped_whole t u s side head body phase live unsent tied head_is now keeps wait
         (waits_same t u s later wire waits ∙ sym (append-nil (queued (view_of t s) wire)));
   };
   note = rw (live, last.not_im, unsent) refl;
-  held = ap (λ (h : Holding). h.held) (holding_at u later side) ∙ cleared.held;
+  frame_bytes = ap (λ (h : Holding). h.frame_bytes) (holding_at u later side) ∙ cleared.frame_bytes;
   asks = record {
     base = inr (
-      inr (ap (λ (h : Holding). is_dm_head (head_in t.cap h.held)) (holding_at t s side)
+      inr (ap (λ (h : Holding). is_dm_head (head_in t.cap h.frame_bytes)) (holding_at t s side)
           ∙ (ap (λ (b : List ℕ). is_dm_head (head_in t.cap b)) tied
           ∙ (ap is_dm_head head_is ∙ last.not_dm))),
       rw (holding_at u later side, holding_at t s side) cleared.base,
@@ -301,79 +301,79 @@ goes_out phase side noted Dm len body v words depth right sent = refl
 goes_out phase side noted Fm len body v words depth right sent = rw right sent
 goes_out phase side noted Em len body v words depth right sent = rw right sent
 
-held_on : (head : Head) (v : Verdict) (bytes : List ℕ) → held_after (Notes.Frame head (deed_of true v)) bytes ≡ bytes
+held_on : (head : Head) (v : Verdict) (bytes : List ℕ) → frame_bytes_after (Notes.Frame head (deed_of true v)) bytes ≡ bytes
 held_on head Relay bytes = refl
 held_on head Prn bytes = refl
 held_on head (Huh place) bytes = refl
 
 -- the phase depends on the tokens of a message only
-phase_of_held : (cap : ℕ) (held : List ℕ) (top : Level) (kind : Kind) (len : ℕ) (side : Side) (v : Verdict)
-    (phase : SessionPhase) → head_in cap held ≡ Some (record { kind = kind; len = len }) →
-    phase_after top kind side v (tokens_held cap held) phase ≡ phase_after top kind side v (tokens_of (drop 4 held)) phase
-phase_of_held cap held top Im len side v phase e = refl
-phase_of_held cap held top Rm len side v phase e = refl
-phase_of_held cap held top Dm len side v phase e = rw e refl
-phase_of_held cap held top Fm len side v phase e = refl
-phase_of_held cap held top Em len side v phase e = refl
+phase_of_held : (cap : ℕ) (frame_bytes : List ℕ) (top : Level) (kind : Kind) (len : ℕ) (side : Side) (v : Verdict)
+    (phase : SessionPhase) → head_in cap frame_bytes ≡ Some (record { kind = kind; len = len }) →
+    phase_after top kind side v (frame_tokens cap frame_bytes) phase ≡ phase_after top kind side v (tokens_of (drop 4 frame_bytes)) phase
+phase_of_held cap frame_bytes top Im len side v phase e = refl
+phase_of_held cap frame_bytes top Rm len side v phase e = refl
+phase_of_held cap frame_bytes top Dm len side v phase e = rw e refl
+phase_of_held cap frame_bytes top Fm len side v phase e = refl
+phase_of_held cap frame_bytes top Em len side v phase e = refl
 
 pub phase_held : (t u : Channels) (side : Side) (top : Level) (head : Head) (v : Verdict) (phase : SessionPhase) →
     Keeps side t u → IsAnswered (at t.sides side) (at u.sides side) →
-    (at t.sides side).holding.held ≡ pending t side → head_in t.cap (pending t side) ≡ Some head →
-    phase_after top head.kind side v (tokens_held u.cap (at u.sides side).holding.held) phase
+    (at t.sides side).holding.frame_bytes ≡ pending t side → head_in t.cap (pending t side) ≡ Some head →
+    phase_after top head.kind side v (frame_tokens u.cap (at u.sides side).holding.frame_bytes) phase
     ≡ phase_after top head.kind side v (tokens_of (drop 4 (pending t side))) phase
 phase_held t u side top head v phase keeps answered_by tied head_is =
-    ap (λ (n : ℕ). phase_after top head.kind side v (tokens_held n (at u.sides side).holding.held) phase) keeps.cap
-    ∙ (ap (λ (b : List ℕ). phase_after top head.kind side v (tokens_held t.cap b) phase) (answered_by.held ∙ tied)
+    ap (λ (n : ℕ). phase_after top head.kind side v (frame_tokens n (at u.sides side).holding.frame_bytes) phase) keeps.cap
+    ∙ (ap (λ (b : List ℕ). phase_after top head.kind side v (frame_tokens t.cap b) phase) (answered_by.frame_bytes ∙ tied)
     ∙ phase_of_held t.cap (pending t side) top head.kind head.len side v phase head_is)
 
 -- and so does the account
-level_of_held : (cap : ℕ) (held : List ℕ) (top : Level) (kind : Kind) (len : ℕ) (side : Side) (deed : Deed)
-    (level : Level) → head_in cap held ≡ Some (record { kind = kind; len = len }) →
-    level_after top kind side deed (tokens_held cap held) level ≡ level_after top kind side deed (tokens_of (drop 4 held)) level
-level_of_held cap held top Im len side deed level e = refl
-level_of_held cap held top Rm len side deed level e = refl
-level_of_held cap held top Dm len side deed level e = rw e refl
-level_of_held cap held top Fm len side deed level e = refl
-level_of_held cap held top Em len side deed level e = refl
+level_of_held : (cap : ℕ) (frame_bytes : List ℕ) (top : Level) (kind : Kind) (len : ℕ) (side : Side) (deed : Deed)
+    (level : Level) → head_in cap frame_bytes ≡ Some (record { kind = kind; len = len }) →
+    level_after top kind side deed (frame_tokens cap frame_bytes) level ≡ level_after top kind side deed (tokens_of (drop 4 frame_bytes)) level
+level_of_held cap frame_bytes top Im len side deed level e = refl
+level_of_held cap frame_bytes top Rm len side deed level e = refl
+level_of_held cap frame_bytes top Dm len side deed level e = rw e refl
+level_of_held cap frame_bytes top Fm len side deed level e = refl
+level_of_held cap frame_bytes top Em len side deed level e = refl
 
-name_of_held : (cap : ℕ) (held : List ℕ) (kind : Kind) (len : ℕ) (side : Side) (deed : Deed) (name : BotName) →
-    head_in cap held ≡ Some (record { kind = kind; len = len }) →
-    name_after kind side deed (tokens_held cap held) name ≡ name_after kind side deed (tokens_of (drop 4 held)) name
-name_of_held cap held Im len side deed name e = refl
-name_of_held cap held Rm len side deed name e = refl
-name_of_held cap held Dm len side deed name e = rw e refl
-name_of_held cap held Fm len side deed name e = refl
-name_of_held cap held Em len side deed name e = refl
+name_of_held : (cap : ℕ) (frame_bytes : List ℕ) (kind : Kind) (len : ℕ) (side : Side) (deed : Deed) (name : BotName) →
+    head_in cap frame_bytes ≡ Some (record { kind = kind; len = len }) →
+    name_after kind side deed (frame_tokens cap frame_bytes) name ≡ name_after kind side deed (tokens_of (drop 4 frame_bytes)) name
+name_of_held cap frame_bytes Im len side deed name e = refl
+name_of_held cap frame_bytes Rm len side deed name e = refl
+name_of_held cap frame_bytes Dm len side deed name e = rw e refl
+name_of_held cap frame_bytes Fm len side deed name e = refl
+name_of_held cap frame_bytes Em len side deed name e = refl
 
-frame_of_held : (cap : ℕ) (held : List ℕ) (top : Level) (head : Head) (side : Side) (deed : Deed) (a : Account) →
-    head_in cap held ≡ Some head →
-    frame_accounted top side head.kind deed (tokens_held cap held) a
-    ≡ frame_accounted top side head.kind deed (tokens_of (drop 4 held)) a
-frame_of_held cap held top head Bot deed a e =
+frame_of_held : (cap : ℕ) (frame_bytes : List ℕ) (top : Level) (head : Head) (side : Side) (deed : Deed) (a : Account) →
+    head_in cap frame_bytes ≡ Some head →
+    frame_accounted top side head.kind deed (frame_tokens cap frame_bytes) a
+    ≡ frame_accounted top side head.kind deed (tokens_of (drop 4 frame_bytes)) a
+frame_of_held cap frame_bytes top head Bot deed a e =
     rw (
-      level_of_held cap held top head.kind head.len Bot deed a.level e,
-      name_of_held cap held head.kind head.len Bot deed a.name e,
+      level_of_held cap frame_bytes top head.kind head.len Bot deed a.level e,
+      name_of_held cap frame_bytes head.kind head.len Bot deed a.name e,
     ) refl
-frame_of_held cap held top head Server deed a e =
+frame_of_held cap frame_bytes top head Server deed a e =
     rw (
-      level_of_held cap held top head.kind head.len Server deed a.level e,
-      name_of_held cap held head.kind head.len Server deed a.name e,
+      level_of_held cap frame_bytes top head.kind head.len Server deed a.level e,
+      name_of_held cap frame_bytes head.kind head.len Server deed a.name e,
     ) refl
 
 pub account_held : (t u : Channels) (side : Side) (top : Level) (head : Head) (deed : Deed) (a : Account) →
     Keeps side t u → IsAnswered (at t.sides side) (at u.sides side) →
-    (at t.sides side).holding.held ≡ pending t side → head_in t.cap (pending t side) ≡ Some head →
-    frame_accounted top side head.kind deed (tokens_held u.cap (at u.sides side).holding.held) a
+    (at t.sides side).holding.frame_bytes ≡ pending t side → head_in t.cap (pending t side) ≡ Some head →
+    frame_accounted top side head.kind deed (frame_tokens u.cap (at u.sides side).holding.frame_bytes) a
     ≡ frame_accounted top side head.kind deed (tokens_of (drop 4 (pending t side))) a
 account_held t u side top head deed a keeps answered_by tied head_is =
-    ap (λ (n : ℕ). frame_accounted top side head.kind deed (tokens_held n (at u.sides side).holding.held) a) keeps.cap
-    ∙ (ap (λ (b : List ℕ). frame_accounted top side head.kind deed (tokens_held t.cap b) a) (answered_by.held ∙ tied)
+    ap (λ (n : ℕ). frame_accounted top side head.kind deed (frame_tokens n (at u.sides side).holding.frame_bytes) a) keeps.cap
+    ∙ (ap (λ (b : List ℕ). frame_accounted top side head.kind deed (frame_tokens t.cap b) a) (answered_by.frame_bytes ∙ tied)
     ∙ frame_of_held t.cap (pending t side) top head side deed a head_is)
 
 pub answered_whole : (t u : Channels) (s : ProtocolState) (side : Side) (head : Head) (body : List ℕ) (verdict : Verdict)
     (phase : SessionPhase) (account : Account) (note : Note) →
     is_over s.phase ≡ false → is_sent s.phase head.kind (other side) ≡ true → check_of head.kind body ≡ Ok tt →
-    (at t.sides side).holding.held ≡ pending t side → head_in t.cap (pending t side) ≡ Some head →
+    (at t.sides side).holding.frame_bytes ≡ pending t side → head_in t.cap (pending t side) ≡ Some head →
     IsCorrectVerdict t.rules.words t.rules.max_depth (question_of side (at t.sides side).coming.noted head body) verdict →
     Keeps side t u → u.queued ≡ posted t.queued (reply_to side head body verdict) →
     IsAnswered (at t.sides side) (at u.sides side) →
@@ -401,11 +401,11 @@ answered_whole t u s side head body verdict phase account note live sent good ti
             ∙ sym (ap (λ (o : Successor). account_after (view_of t s) o.effects) same));
       };
       note = its_note ∙ sym (ap (λ (o : Successor). note_of o.effects) same);
-      held = ap (λ (h : Holding). h.held) (holding_at u later side)
-          ∙ (answered_by.held
-          ∙ (sym (held_on head verdict (at t.sides side).holding.held)
-          ∙ (ap (λ (n : Note). held_after n (at t.sides side).holding.held) (sym its_note)
-          ∙ ap (λ (h : Holding). held_after note h.held) (sym (holding_at t s side)))));
+      frame_bytes = ap (λ (h : Holding). h.frame_bytes) (holding_at u later side)
+          ∙ (answered_by.frame_bytes
+          ∙ (sym (held_on head verdict (at t.sides side).holding.frame_bytes)
+          ∙ (ap (λ (n : Note). frame_bytes_after n (at t.sides side).holding.frame_bytes) (sym its_note)
+          ∙ ap (λ (h : Holding). frame_bytes_after note h.frame_bytes) (sym (holding_at t s side)))));
       asks = record {
         base = inl (rw (holding_at u later side, holding_at t s side) answered_by.base);
         raised = rw (holding_at u later side, holding_at t s side) raised;
@@ -437,6 +437,6 @@ answered_whole t u s side head body verdict phase account note live sent good ti
     same = whole_outcome (state_of t s) side head body verdict live
         ∙ (whole_good (state_of t s) side head.kind head.len body verdict good ∙ made_so)
 
-    is_message : is_dm_head (head_in t.cap (holding (view_of t s) side).held) ≡ is_dm head.kind
-    is_message = ap (λ (h : Holding). is_dm_head (head_in t.cap h.held)) (holding_at t s side)
+    is_message : is_dm_head (head_in t.cap (holding (view_of t s) side).frame_bytes) ≡ is_dm head.kind
+    is_message = ap (λ (h : Holding). is_dm_head (head_in t.cap h.frame_bytes)) (holding_at t s side)
         ∙ (ap (λ (b : List ℕ). is_dm_head (head_in t.cap b)) tied ∙ ap is_dm_head head_is)

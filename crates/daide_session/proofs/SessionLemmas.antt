@@ -182,7 +182,7 @@ new_of config words t level account q e none = record {
         words = grammar_words words;
       })) e;
   quiet = q.queued;
-  held = λ side. ap (λ (h : Holding). h.held) (seen side) ∙ q.held side;
+  frame_bytes = λ side. ap (λ (h : Holding). h.frame_bytes) (seen side) ∙ q.frame_bytes side;
   unasked = λ side. ap (λ (h : Holding). h.total) (seen side) ∙ q.unasked side;
   unlooked = λ side. ap (λ (h : Holding). h.looked_at) (seen side) ∙ q.unlooked side;
   uncounted = none;

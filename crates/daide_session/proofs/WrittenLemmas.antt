@@ -67,7 +67,7 @@ lets_go : (t u v : Channels) (s r : ProtocolState) →
 lets_go t u v s r same sides l = record {
   gone = λ one waited free.
       let was = same one ∙ waited in (
-        ap (λ (h : Holding). h.held) (holding_at v r one) ∙ l.gone one was free,
+        ap (λ (h : Holding). h.frame_bytes) (holding_at v r one) ∙ l.gone one was free,
         ap (λ (h : Holding). h.total) (holding_at v r one)
             ∙ (l.total one ∙ ap (λ (h : Holding). h.total) (before one)),
       );
@@ -85,17 +85,17 @@ holds_less t u v s r sides l one =
     by_answers (is_awaited (at u.queued) one) refl (is_awaited (at v.queued) one) refl
   where
     kept : is_awaited (at v.queued) one ≡ is_awaited (at u.queued) one →
-        ((holding (view_of v r) one).held ≡ (holding (view_of t s) one).held)
-        ⊎ ((holding (view_of v r) one).held ≡ [])
-    kept same = inl (ap (λ (h : Holding). h.held)
+        ((holding (view_of v r) one).frame_bytes ≡ (holding (view_of t s) one).frame_bytes)
+        ⊎ ((holding (view_of v r) one).frame_bytes ≡ [])
+    kept same = inl (ap (λ (h : Holding). h.frame_bytes)
         (holding_at v r one ∙ (l.kept one same
         ∙ (ap (λ (x : PerSide ReceiveState). (at x one).holding) sides ∙ sym (holding_at t s one)))))
 
     by_answers : (a : Bool) → is_awaited (at u.queued) one ≡ a → (b : Bool) → is_awaited (at v.queued) one ≡ b →
-        ((holding (view_of v r) one).held ≡ (holding (view_of t s) one).held)
-        ⊎ ((holding (view_of v r) one).held ≡ [])
+        ((holding (view_of v r) one).frame_bytes ≡ (holding (view_of t s) one).frame_bytes)
+        ⊎ ((holding (view_of v r) one).frame_bytes ≡ [])
     by_answers true e true f = kept (f ∙ sym e)
-    by_answers true e false f = inr (ap (λ (h : Holding). h.held) (holding_at v r one) ∙ l.gone one e f)
+    by_answers true e false f = inr (ap (λ (h : Holding). h.frame_bytes) (holding_at v r one) ∙ l.gone one e f)
     by_answers false e true f = absurd (let none = sym f ∙ l.fewer one e in cc)
     by_answers false e false f = kept (f ∙ sym e)
 
@@ -116,7 +116,7 @@ wrote_of t v s side n l wait bytes = record {
   other_wire = waiting_at v s (other side)
       ∙ (ap (λ (w : PerSide (List Sent)). at w (other side)) wait
       ∙ (put_there t.queued side (without n (at t.queued side)) ∙ sym (waiting_at t s (other side))));
-  held = lets_go t t v s s (λ one. refl) refl l;
+  frame_bytes = lets_go t t v s s (λ one. refl) refl l;
 }
 
 pub dropped_of : (t v : Channels) (s : ProtocolState) (side : Side) → ReleasesChannels t v → v.queued ≡ put t.queued side [] →
@@ -130,7 +130,7 @@ dropped_of t v s side l wait parts = record {
       ∙ (ap (λ (w : PerSide (List Sent)). at w (other side)) wait
       ∙ (put_there t.queued side [] ∙ sym (waiting_at t s (other side))));
   other_front = other_front t t v s s side [] (fronts_stay t) wait parts;
-  held = lets_go t t v s s (λ one. refl) refl l;
+  frame_bytes = lets_go t t v s s (λ one. refl) refl l;
   asks_nothing = on_both (λ (side : Side). (holding (view_of v s) side).total ≡ (holding (view_of t s) side).total)
       (l.total Bot) (l.total Server);
   looks_at_nothing = on_both (λ (side : Side). (holding (view_of v s) side).looked_at ≡ (holding (view_of t s) side).looked_at)
@@ -152,7 +152,7 @@ lost_of t u v s r side m keeps l wait = record {
   over = ap (λ (x : SessionState). is_over x.phase) (state ∙ m.state)
       ∙ stopped_over (state_of t s) (Endings.Lost side) side;
   counts = on_peer_closed.counts;
-  held = lets_go t u v s r (λ one. stopped_awaited t u s r (Endings.Lost side) side one m) keeps.sides l;
+  frame_bytes = lets_go t u v s r (λ one. stopped_awaited t u s r (Endings.Lost side) side one m) keeps.sides l;
 }
   where
     on_peer_closed : Refines (view_of t s) (Loses side ∷ []) Notes.Nothing (view_of u r)

@@ -16,7 +16,7 @@ use Rattle.daide_protocol.specs.declared.ending.Ending.{Ending}
 use Rattle.daide_frame.specs.Side.{other}
 use Rattle.daide_protocol.specs.Machine.{SessionState, Successor, IsCorrectVerdict, asked_by, items_outcome, is_over, level_in, nothing, end, stop}
 use Rattle.daide_protocol.specs.Wires.{SessionView, Holding, account_after, queued, holding, sent_to, note_of}
-use Rattle.daide_protocol.specs.Wires.{held_after, is_awaited, is_dm_head}
+use Rattle.daide_protocol.specs.Wires.{frame_bytes_after, is_awaited, is_dm_head}
 use Rattle.daide_session.specs.declared.protocol_state.ProtocolState.{ProtocolState}
 use Rattle.daide_frame.specs.PerSide.{at}
 use Rattle.daide_channels.specs.Channels.{Channels, Keeps, IsStarted, has_final_frame, pending, side_holding}
@@ -51,14 +51,14 @@ check_of Em body = Ok tt
 
 -- no byte of a message was read: the body is still empty, or the frame is no message
 abbrev pub HasNoMessageBytes : ℕ → List ℕ → Type 0
-HasNoMessageBytes cap held = (drop 4 held ≡ []) ⊎ (is_dm_head (head_in cap held) ≡ false)
+HasNoMessageBytes cap frame_bytes = (drop 4 frame_bytes ≡ []) ⊎ (is_dm_head (head_in cap frame_bytes) ≡ false)
 
 -- Look-ups are made for a message only, and only at its end. The count's start stays or, if no byte of a message was
 -- read, is set to the present count. The HLO scan reads no token.
 pub record Asks (cap : ℕ) (old new : Holding) : Type 0 where
-  pub base : (new.total_before ≡ old.total_before) ⊎ (HasNoMessageBytes cap old.held × (new.total_before ≡ old.total))
+  pub base : (new.total_before ≡ old.total_before) ⊎ (HasNoMessageBytes cap old.frame_bytes × (new.total_before ≡ old.total))
   pub raised : IsRaised most_steps old.total new.total
-  pub no_message : is_dm_head (head_in cap old.held) ≡ false → new.total ≡ old.total
+  pub no_message : is_dm_head (head_in cap old.frame_bytes) ≡ false → new.total ≡ old.total
   pub looked_at : new.looked_at ≡ old.looked_at
 
 -- the note for a header: a fault if it has a code
@@ -80,7 +80,7 @@ pub record MayHandleEvents (channels : Channels) (protocol : ProtocolState) (sid
   pub live : is_over protocol.phase ≡ false
   pub no_end : (wire : Side) → has_final_frame (at channels.queued wire) ≡ false
   pub free : is_awaited (at channels.queued) side ≡ false
-  pub tied : (side_holding channels side).held ≡ pending channels side
+  pub tied : (side_holding channels side).frame_bytes ≡ pending channels side
 
 -- The session handled the frame events that end with a side's last byte.
 pub record HandlesFrameEvents (old : SessionView) (side : Side) (items : List FrameEvent) (reported : Note) (new : SessionView) : Type 0 where
@@ -88,6 +88,6 @@ pub record HandlesFrameEvents (old : SessionView) (side : Side) (items : List Fr
   pub right : IsCorrectVerdict old.state.limits.words old.state.limits.max_depth (asked_by old.state side items) verdict
   pub moves : Emits old (items_outcome old.state side items verdict) new
   pub note : reported ≡ note_of (items_outcome old.state side items verdict).effects
-  pub held : (holding new side).held ≡ held_after reported (holding old side).held
+  pub frame_bytes : (holding new side).frame_bytes ≡ frame_bytes_after reported (holding old side).frame_bytes
   pub asks : Asks old.state.limits.cap (holding old side) (holding new side)
   pub other_side : holding new (other side) ≡ holding old (other side)

@@ -59,7 +59,7 @@ pub record Dropped (old : SessionView) (side : Side) (new : SessionView) : Type 
   pub other_wire : queued new (other side) ≡ queued old (other side)
   pub other_front : KeepsFront old (other side) new
   pub counts : new.account ≡ old.account
-  pub held : Releases old new
+  pub frame_bytes : Releases old new
   pub asks_nothing : AsksNothing old new
   pub looks_at_nothing : LooksAtNothing old new
 

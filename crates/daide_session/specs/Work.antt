@@ -5,23 +5,23 @@ use Rattle.daide_frame.specs.declared.side.Side.{Side}
 use Rattle.daide_frame.specs.Frames.{head_in, missing}
 use Rattle.daide_grammar.specs.Bounds.{message_steps}
 use Rattle.daide_protocol.specs.Wires.{SessionView, holding, is_dm_head}
-use Rattle.daide_protocol.specs.Weight.{tokens_held}
+use Rattle.daide_protocol.specs.Weight.{frame_tokens}
 
 -- whether a side's frame is a whole message
 abbrev pub is_whole_message : ℕ → List ℕ → Bool
-is_whole_message cap held = is_dm_head (head_in cap held) && (missing cap held == 0)
+is_whole_message cap frame_bytes = is_dm_head (head_in cap frame_bytes) && (missing cap frame_bytes == 0)
 
 -- the look-ups permitted for these bytes of a frame
 abbrev pub answers_for : ℕ → List ℕ → ℕ
-answers_for cap held = message_steps (length (tokens_held cap held)) (is_whole_message cap held)
+answers_for cap frame_bytes = message_steps (length (frame_tokens cap frame_bytes)) (is_whole_message cap frame_bytes)
 
 -- the credit left for these bytes: two look-ups for each byte, without those permitted so far
 abbrev pub left_of : ℕ → List ℕ → ℕ
-left_of cap held = 2 * length held - answers_for cap held
+left_of cap frame_bytes = 2 * length frame_bytes - answers_for cap frame_bytes
 
 -- the credit left for a side's held bytes
 abbrev pub unspent : SessionView → Side → ℕ
-unspent g side = left_of g.state.limits.cap (holding g side).held
+unspent g side = left_of g.state.limits.cap (holding g side).frame_bytes
 
 -- After `bytes` bytes from a side: its table made at most two look-ups for each of them, plus the credit left before,
 -- minus the credit left now.
@@ -33,4 +33,4 @@ pub record IsPaidBy (bytes : ℕ) (side : Side) (old new : SessionView) : Type 0
 -- each side holds the bytes that it held, or none
 abbrev pub HoldsNoMore : SessionView → SessionView → Type 0
 HoldsNoMore old new =
-    (side : Side) → ((holding new side).held ≡ (holding old side).held) ⊎ ((holding new side).held ≡ [])
+    (side : Side) → ((holding new side).frame_bytes ≡ (holding old side).frame_bytes) ⊎ ((holding new side).frame_bytes ≡ [])

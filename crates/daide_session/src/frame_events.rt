@@ -163,7 +163,7 @@ pub fn on_frame_event<A: Allocator>(
     step: Step,
 ) -> Note
     requires ready { MayHandleEvents channels.old protocol.old side }
-    requires held { HoldsFrame step (head_in channels.old.cap (pending channels.old side))
+    requires frame_bytes { HoldsFrame step (head_in channels.old.cap (pending channels.old side))
         (drop 4 (pending channels.old side)) }
     ensures reacts { HandlesFrameEvents (view_of channels.old protocol.old) side
         (items_of_step step (drop 4 (pending channels.old side))) result (view_of channels.new protocol.new) }

@@ -94,14 +94,14 @@ module _ {P S : Type 0} (to_give taken : S → Option (List ℕ)) (calls : S →
   stays before after h = refl
 
   -- the effect of calls on what is counted
-  pub record Counts (answers : List (SystemCall P)) (old new : RunSockets S) : Type 0 where
-    pub bots : new.came + pending_connects old.arrivals ≡ old.came + (pending_connects new.arrivals + (bots_joined answers + bots_given_up answers))
-    pub closing : length new.closing.streams ≤ length old.closing.streams + (bots_given_up answers + 2 * sessions_retired answers)
+  pub record Counts (trace : List (SystemCall P)) (old new : RunSockets S) : Type 0 where
+    pub bots : new.came + pending_connects old.arrivals ≡ old.came + (pending_connects new.arrivals + (bots_joined trace + bots_given_up trace))
+    pub closing : length new.closing.streams ≤ length old.closing.streams + (bots_given_up trace + 2 * sessions_retired trace)
     pub few : length old.closing.streams ≤ 256 → length new.closing.streams ≤ 256
 
-  same_counts : (answer : SystemCall P) (old new : RunSockets S) → new ≡ old → bots_joined (answer ∷ []) ≡ 0 →
-      bots_given_up (answer ∷ []) ≡ 0 → Counts (answer ∷ []) old new
-  same_counts answer old new e none no_other =
+  same_counts : (call : SystemCall P) (old new : RunSockets S) → new ≡ old → bots_joined (call ∷ []) ≡ 0 →
+      bots_given_up (call ∷ []) ≡ 0 → Counts (call ∷ []) old new
+  same_counts call old new e none no_other =
       let came : new.came ≡ old.came = ap (λ (s : RunSockets S). s.came) e in
       let arrivals : pending_connects new.arrivals ≡ pending_connects old.arrivals = ap (λ (s : RunSockets S). pending_connects s.arrivals) e in
       let closing : length new.closing.streams ≡ length old.closing.streams =
@@ -112,8 +112,8 @@ module _ {P S : Type 0} (to_give taken : S → Option (List ℕ)) (calls : S →
         few = λ h. omega (arith, closing, h);
       }
 
-  one : (answer : SystemCall P) (old new : RunSockets S) → Transits to_give taken calls pair old answer new →
-      Counts (answer ∷ []) old new
+  one : (call : SystemCall P) (old new : RunSockets S) → Transits to_give taken calls pair old call new →
+      Counts (call ∷ []) old new
   one (Polls may_block woken orders) old new h =
       let came = h.0 in
       let arrivals : pending_connects new.arrivals ≡ pending_connects old.arrivals = ap pending_connects h.1 in
@@ -183,45 +183,45 @@ module _ {P S : Type 0} (to_give taken : S → Option (List ℕ)) (calls : S →
   one (Notifies notice) old new h = same_counts (Notifies notice) old new h refl refl
 
   -- the first call is counted apart from the rest
-  joined_first : (answer : SystemCall P) (answers : List (SystemCall P)) →
-      bots_joined (answer ∷ answers) ≡ bots_joined (answer ∷ []) + bots_joined answers
-  joined_first (Polls may_block woken orders) answers = omega arith
-  joined_first (Shows ports status) answers = omega arith
-  joined_first (BeginsTurn place before after) answers = omega arith
-  joined_first (Rests place ports rests) answers = omega arith
-  joined_first (Accepts place came) answers = omega arith
-  joined_first (Connects place (Ready ports)) answers = omega arith
-  joined_first (Connects place Failed) answers = omega arith
-  joined_first (Connects place Pending) answers = omega arith
-  joined_first (Retires place ports end) answers = omega arith
-  joined_first (Notifies notice) answers = omega arith
+  joined_first : (call : SystemCall P) (trace : List (SystemCall P)) →
+      bots_joined (call ∷ trace) ≡ bots_joined (call ∷ []) + bots_joined trace
+  joined_first (Polls may_block woken orders) trace = omega arith
+  joined_first (Shows ports status) trace = omega arith
+  joined_first (BeginsTurn place before after) trace = omega arith
+  joined_first (Rests place ports rests) trace = omega arith
+  joined_first (Accepts place came) trace = omega arith
+  joined_first (Connects place (Ready ports)) trace = omega arith
+  joined_first (Connects place Failed) trace = omega arith
+  joined_first (Connects place Pending) trace = omega arith
+  joined_first (Retires place ports end) trace = omega arith
+  joined_first (Notifies notice) trace = omega arith
 
-  given_up_first : (answer : SystemCall P) (answers : List (SystemCall P)) →
-      bots_given_up (answer ∷ answers) ≡ bots_given_up (answer ∷ []) + bots_given_up answers
-  given_up_first (Polls may_block woken orders) answers = omega arith
-  given_up_first (Shows ports status) answers = omega arith
-  given_up_first (BeginsTurn place before after) answers = omega arith
-  given_up_first (Rests place ports rests) answers = omega arith
-  given_up_first (Accepts place came) answers = omega arith
-  given_up_first (Connects place (Ready ports)) answers = omega arith
-  given_up_first (Connects place Failed) answers = omega arith
-  given_up_first (Connects place Pending) answers = omega arith
-  given_up_first (Retires place ports end) answers = omega arith
-  given_up_first (Notifies notice) answers = omega arith
+  given_up_first : (call : SystemCall P) (trace : List (SystemCall P)) →
+      bots_given_up (call ∷ trace) ≡ bots_given_up (call ∷ []) + bots_given_up trace
+  given_up_first (Polls may_block woken orders) trace = omega arith
+  given_up_first (Shows ports status) trace = omega arith
+  given_up_first (BeginsTurn place before after) trace = omega arith
+  given_up_first (Rests place ports rests) trace = omega arith
+  given_up_first (Accepts place came) trace = omega arith
+  given_up_first (Connects place (Ready ports)) trace = omega arith
+  given_up_first (Connects place Failed) trace = omega arith
+  given_up_first (Connects place Pending) trace = omega arith
+  given_up_first (Retires place ports end) trace = omega arith
+  given_up_first (Notifies notice) trace = omega arith
 
-  retired_first : (answer : SystemCall P) (answers : List (SystemCall P)) →
-      sessions_retired (answer ∷ answers) ≡ sessions_retired (answer ∷ []) + sessions_retired answers
-  retired_first (Polls may_block woken orders) answers = omega arith
-  retired_first (Shows ports status) answers = omega arith
-  retired_first (BeginsTurn place before after) answers = omega arith
-  retired_first (Rests place ports rests) answers = omega arith
-  retired_first (Accepts place came) answers = omega arith
-  retired_first (Connects place connect) answers = omega arith
-  retired_first (Retires place ports end) answers = omega arith
-  retired_first (Notifies notice) answers = omega arith
+  retired_first : (call : SystemCall P) (trace : List (SystemCall P)) →
+      sessions_retired (call ∷ trace) ≡ sessions_retired (call ∷ []) + sessions_retired trace
+  retired_first (Polls may_block woken orders) trace = omega arith
+  retired_first (Shows ports status) trace = omega arith
+  retired_first (BeginsTurn place before after) trace = omega arith
+  retired_first (Rests place ports rests) trace = omega arith
+  retired_first (Accepts place came) trace = omega arith
+  retired_first (Connects place connect) trace = omega arith
+  retired_first (Retires place ports end) trace = omega arith
+  retired_first (Notifies notice) trace = omega arith
 
-  counted : (old new : RunSockets S) (answers : List (SystemCall P)) →
-      TransitsBy (Transits to_give taken calls pair) old answers new → Counts answers old new
+  counted : (old new : RunSockets S) (trace : List (SystemCall P)) →
+      TransitsBy (Transits to_give taken calls pair) old trace new → Counts trace old new
   counted old new [] h =
       let came : new.came ≡ old.came = ap (λ (s : RunSockets S). s.came) h in
       let arrivals : pending_connects new.arrivals ≡ pending_connects old.arrivals = ap (λ (s : RunSockets S). pending_connects s.arrivals) h in
@@ -232,14 +232,14 @@ module _ {P S : Type 0} (to_give taken : S → Option (List ℕ)) (calls : S →
         closing = omega (arith, closing);
         few = λ few. omega (arith, closing, few);
       }
-  counted old new (answer ∷ answers) h =
-      let first = one answer old h.0 h.1 in
-      let rest = counted h.0 new answers h.2 in
+  counted old new (call ∷ trace) h =
+      let first = one call old h.0 h.1 in
+      let rest = counted h.0 new trace h.2 in
       let a = first.bots in
       let b = rest.bots in
-      let c = joined_first answer answers in
-      let d = given_up_first answer answers in
-      let e = retired_first answer answers in
+      let c = joined_first call trace in
+      let d = given_up_first call trace in
+      let e = retired_first call trace in
       let f = first.closing in
       let g = rest.closing in
       record {
@@ -248,10 +248,10 @@ module _ {P S : Type 0} (to_give taken : S → Option (List ℕ)) (calls : S →
         few = λ few. rest.few (first.few few);
       }
 
-  pub accounted : (old new : RunSockets S) (answers : List (SystemCall P)) → old.came ≡ 0 → pending_connects old.arrivals ≡ 0 →
-      old.closing.streams ≡ [] → TransitsBy (Transits to_give taken calls pair) old answers new → IsAccounted answers new
-  accounted old new answers none no_arrivals no_closing h =
-      let counts = counted old new answers h in
+  pub accounted : (old new : RunSockets S) (trace : List (SystemCall P)) → old.came ≡ 0 → pending_connects old.arrivals ≡ 0 →
+      old.closing.streams ≡ [] → TransitsBy (Transits to_give taken calls pair) old trace new → IsAccounted trace new
+  accounted old new trace none no_arrivals no_closing h =
+      let counts = counted old new trace h in
       let bots = counts.bots in
       let closing = counts.closing in
       let streams : length old.closing.streams ≡ 0 = ap length no_closing in

@@ -532,34 +532,34 @@ module _ {S : Type 0} (to_give taken : S → Option (List ℕ)) (calls : S → O
           (closes_since old.table.reading old.closing (pair ports).bot h.0 here h.1 all)
       call_since (Notifies notice) old new here there h all = same_since old.closing new.closing h all
 
-      abbrev readings : (answers : List (SystemCall P)) (old new : RunState N S) → TransitsBy Step old answers new →
+      abbrev readings : (trace : List (SystemCall P)) (old new : RunState N S) → TransitsBy Step old trace new →
           List (Option Instant)
       readings = readings_of Step
 
       -- the first reading is that of the table
-      first_reading : (answers : List (SystemCall P)) (old new : RunState N S) (h : TransitsBy Step old answers new) →
-          Contains (readings answers old new h) old.table.reading
+      first_reading : (trace : List (SystemCall P)) (old new : RunState N S) (h : TransitsBy Step old trace new) →
+          Contains (readings trace old new h) old.table.reading
       first_reading [] old new h = (0, omega arith, refl)
-      first_reading (call ∷ answers) old new h = (0, omega arith, refl)
+      first_reading (call ∷ trace) old new h = (0, omega arith, refl)
 
-      pub calls_since : (answers : List (SystemCall P)) (old new : RunState N S) (h : TransitsBy Step old answers new) →
-          ((reading : Option Instant) → Contains (readings answers old new h) reading → Contains clock reading) →
+      pub calls_since : (trace : List (SystemCall P)) (old new : RunState N S) (h : TransitsBy Step old trace new) →
+          ((reading : Option Instant) → Contains (readings trace old new h) reading → Contains clock reading) →
           AllSince old.closing → AllSince new.closing
       calls_since [] old new h within all =
           same_since old.closing new.closing (ap (λ (s : RunState N S). s.closing) h) all
-      calls_since (call ∷ answers) old new h within all =
-          let later : (reading : Option Instant) → Contains (readings answers h.0 new h.2) reading → Contains clock reading =
-          λ reading c. within reading (later_contains old.table.reading (readings answers h.0 new h.2) reading c) in
-          calls_since answers h.0 new h.2 later
+      calls_since (call ∷ trace) old new h within all =
+          let later : (reading : Option Instant) → Contains (readings trace h.0 new h.2) reading → Contains clock reading =
+          λ reading c. within reading (later_contains old.table.reading (readings trace h.0 new h.2) reading c) in
+          calls_since trace h.0 new h.2 later
           (call_since call old h.0 (within old.table.reading (0, omega arith, refl))
-          (later h.0.table.reading (first_reading answers h.0 new h.2)) h.1 all)
+          (later h.0.table.reading (first_reading trace h.0 new h.2)) h.1 all)
 
 pub closing_sockets_leave : {N P S : Type 0} (to_give taken : S → Option (List ℕ)) (calls : S → Option (List StreamCall)) →
     ClosingSocketsLeave to_give taken calls N P
-closing_sockets_leave to_give taken calls = λ pair old new answers stall none set goes.
-    let clock = readings_of (ClosesByClock to_give taken calls pair) answers old new goes in
+closing_sockets_leave to_give taken calls = λ pair old new trace stall none set goes.
+    let clock = readings_of (ClosesByClock to_give taken calls pair) trace old new goes in
     let Own = Since to_give taken calls stall clock in
     All-weaker Own (IsClosingInTime to_give taken calls stall clock) (in_time to_give taken calls stall clock)
     new.closing.streams
-    (calls_since to_give taken calls stall clock pair answers old new goes (λ reading c. c)
+    (calls_since to_give taken calls stall clock pair trace old new goes (λ reading c. c)
     (All-same Own old.closing.streams [] none (All-nil Own), set)).0

@@ -6,8 +6,8 @@ use Rattle.std.specs.Time.{instant_nanos}
 use Rattle.std.specs.declared.time.Duration.{Duration}
 use Rattle.std.specs.declared.time.Instant.{Instant}
 use Rattle.daide_io.specs.Deadline.{earlier}
-use Rattle.daide_sockets.specs.Table.{Table, watching, IsUntil, IsNoTime, IsPollTime, IsPollTimeIf}
-use Rattle.daide_sockets.specs.InTime.{IsAtMost, IsInTimeFor, watching_all, WaitsAreInTime}
+use Rattle.daide_sockets.specs.Table.{Table, arming, IsUntil, IsNoTime, IsPollTime, IsPollTimeIf}
+use Rattle.daide_sockets.specs.InTime.{IsAtMost, IsInTimeFor, arming_all, WaitsAreInTime}
 
 -- a moment that is no later than another
 abbrev pub IsBy : Option Instant → Instant → Type 0
@@ -55,96 +55,96 @@ until_by now due (Some read) (Some moment) (Some time) h e k =
 
 -- ---- what is watched
 
-pub same_rows : (table : Table) (watched : List (Bool × Option Instant)) → (watching_all table watched).rows ≡ table.rows
+pub same_rows : (table : Table) (armed : List (Bool × Option Instant)) → (arming_all table armed).rows ≡ table.rows
 same_rows table [] = refl
-same_rows table (one ∷ watched) = same_rows (watching table one.0 one.1) watched
+same_rows table (one ∷ armed) = same_rows (arming table one.0 one.1) armed
 
-pub same_reading : (table : Table) (watched : List (Bool × Option Instant)) → (watching_all table watched).reading ≡ table.reading
+pub same_reading : (table : Table) (armed : List (Bool × Option Instant)) → (arming_all table armed).reading ≡ table.reading
 same_reading table [] = refl
-same_reading table (one ∷ watched) = same_reading (watching table one.0 one.1) watched
+same_reading table (one ∷ armed) = same_reading (arming table one.0 one.1) armed
 
-pub same_places : (table : Table) (watched : List (Bool × Option Instant)) →
-    length (watching_all table watched).deadlines ≡ length table.deadlines
+pub same_places : (table : Table) (armed : List (Bool × Option Instant)) →
+    length (arming_all table armed).deadlines ≡ length table.deadlines
 same_places table [] = refl
-same_places table (one ∷ watched) = same_places (watching table one.0 one.1) watched
+same_places table (one ∷ armed) = same_places (arming table one.0 one.1) armed
 
-pub same_due : (table : Table) (watched : List (Bool × Option Instant)) → (watching_all table watched).due ≡ table.due
+pub same_due : (table : Table) (armed : List (Bool × Option Instant)) → (arming_all table armed).due ≡ table.due
 same_due table [] = refl
-same_due table (one ∷ watched) = same_due (watching table one.0 one.1) watched
+same_due table (one ∷ armed) = same_due (arming table one.0 one.1) armed
 
 -- what a poll is to watch stays watched
-pub due_keeps : (table : Table) (watched : List (Bool × Option Instant)) (due : Instant) → IsBy table.watched_due due →
-    IsBy (watching_all table watched).watched_due due
+pub due_keeps : (table : Table) (armed : List (Bool × Option Instant)) (due : Instant) → IsBy table.armed_due due →
+    IsBy (arming_all table armed).armed_due due
 due_keeps table [] due h = h
-due_keeps table (one ∷ watched) due h =
-    due_keeps (watching table one.0 one.1) watched due (earlier_left table.watched_due one.1 due h)
+due_keeps table (one ∷ armed) due h =
+    due_keeps (arming table one.0 one.1) armed due (earlier_left table.armed_due one.1 due h)
 
-pub work_stays : (table : Table) (watched : List (Bool × Option Instant)) → table.watched_work ≡ true →
-    (watching_all table watched).watched_work ≡ true
+pub work_stays : (table : Table) (armed : List (Bool × Option Instant)) → table.armed_work ≡ true →
+    (arming_all table armed).armed_work ≡ true
 work_stays table [] h = h
-work_stays table (one ∷ watched) h =
-    work_stays (watching table one.0 one.1) watched (ap (λ (b : Bool). b || one.0) h)
+work_stays table (one ∷ armed) h =
+    work_stays (arming table one.0 one.1) armed (ap (λ (b : Bool). b || one.0) h)
 
 -- a poll that watches something with work takes no time
-pub at_once : (table : Table) (time : Option Duration) → IsPollTime true table time → table.watched_work ≡ true → IsNoTime time
+pub at_once : (table : Table) (time : Option Duration) → IsPollTime true table time → table.armed_work ≡ true → IsNoTime time
 at_once table time lasts h = subst (λ (b : Bool). IsPollTimeIf b table time) (ap (λ (b : Bool). true && not b) h) lasts
 
 -- a poll ends by the nearest deadline, of a place or of what is watched
 pub by_due : (table : Table) (time : Option Duration) (now due : Instant) → table.reading ≡ Some now →
-    IsPollTime true table time → IsBy (earlier table.due table.watched_due) due →
+    IsPollTime true table time → IsBy (earlier table.due table.armed_due) due →
     IsAtMost time (instant_nanos due - instant_nanos now)
-by_due table time now due read lasts h = by (true && not table.watched_work) lasts
+by_due table time now due read lasts h = by (true && not table.armed_work) lasts
   where
     by : (blocks : Bool) → IsPollTimeIf blocks table time → IsAtMost time (instant_nanos due - instant_nanos now)
     by false k = no_time time (instant_nanos due - instant_nanos now) k
-    by true k = until_by now due table.reading (earlier table.due table.watched_due) time k read h
+    by true k = until_by now due table.reading (earlier table.due table.armed_due) time k read h
 
 -- a poll that watches these, and then others
-pub each_in_time_beside : (table : Table) (watched others : List (Bool × Option Instant)) (time : Option Duration) →
-    IsPollTime true (watching_all (watching_all table watched) others) time →
-    All (λ (one : Bool × Option Instant). IsInTimeFor table.reading time one.0 one.1) watched
+pub each_in_time_beside : (table : Table) (armed others : List (Bool × Option Instant)) (time : Option Duration) →
+    IsPollTime true (arming_all (arming_all table armed) others) time →
+    All (λ (one : Bool × Option Instant). IsInTimeFor table.reading time one.0 one.1) armed
 each_in_time_beside table [] others time lasts =
     All-nil (λ (one : Bool × Option Instant). IsInTimeFor table.reading time one.0 one.1)
-each_in_time_beside table (one ∷ watched) others time lasts =
-    All-cons (λ (other : Bool × Option Instant). IsInTimeFor table.reading time other.0 other.1) one watched own
-    (each_in_time_beside next watched others time lasts)
+each_in_time_beside table (one ∷ armed) others time lasts =
+    All-cons (λ (other : Bool × Option Instant). IsInTimeFor table.reading time other.0 other.1) one armed own
+    (each_in_time_beside next armed others time lasts)
   where
     next : Table
-    next = watching table one.0 one.1
+    next = arming table one.0 one.1
 
     all : Table
-    all = watching_all next watched
+    all = arming_all next armed
 
     last : Table
-    last = watching_all all others
+    last = arming_all all others
 
     own : IsInTimeFor table.reading time one.0 one.1
     own = record {
       deadline = λ now due read e.
-          by_due last time now due (same_reading all others ∙ same_reading next watched ∙ read) lasts
-          (earlier_right last.due last.watched_due due
-          (due_keeps all others due (due_keeps next watched due (earlier_right table.watched_due one.1 due
+          by_due last time now due (same_reading all others ∙ same_reading next armed ∙ read) lasts
+          (earlier_right last.due last.armed_due due
+          (due_keeps all others due (due_keeps next armed due (earlier_right table.armed_due one.1 due
           (subst (λ (m : Option Instant). IsBy m due) (sym e) (omega arith))))));
       work = λ e. at_once last time lasts
           (work_stays all others
-          (work_stays next watched (ap (λ (b : Bool). table.watched_work || b) e ∙ or_true table.watched_work)));
+          (work_stays next armed (ap (λ (b : Bool). table.armed_work || b) e ∙ or_true table.armed_work)));
     }
 
-pub each_in_time : (table : Table) (watched : List (Bool × Option Instant)) (time : Option Duration) →
-    IsPollTime true (watching_all table watched) time →
-    All (λ (one : Bool × Option Instant). IsInTimeFor table.reading time one.0 one.1) watched
-each_in_time table watched time lasts = each_in_time_beside table watched [] time lasts
+pub each_in_time : (table : Table) (armed : List (Bool × Option Instant)) (time : Option Duration) →
+    IsPollTime true (arming_all table armed) time →
+    All (λ (one : Bool × Option Instant). IsInTimeFor table.reading time one.0 one.1) armed
+each_in_time table armed time lasts = each_in_time_beside table armed [] time lasts
 
 -- a poll ends by the deadlines of the places
-pub places_in_time : (table : Table) (watched : List (Bool × Option Instant)) (time : Option Duration) →
-    IsPollTime true (watching_all table watched) time → IsInTimeFor table.reading time false table.due
-places_in_time table watched time lasts = record {
+pub places_in_time : (table : Table) (armed : List (Bool × Option Instant)) (time : Option Duration) →
+    IsPollTime true (arming_all table armed) time → IsInTimeFor table.reading time false table.due
+places_in_time table armed time lasts = record {
   deadline = λ now due read e.
-      by_due (watching_all table watched) time now due (same_reading table watched ∙ read) lasts
-      (earlier_left (watching_all table watched).due (watching_all table watched).watched_due due
-      (subst (λ (m : Option Instant). IsBy m due) (sym (same_due table watched ∙ e)) (omega arith)));
+      by_due (arming_all table armed) time now due (same_reading table armed ∙ read) lasts
+      (earlier_left (arming_all table armed).due (arming_all table armed).armed_due due
+      (subst (λ (m : Option Instant). IsBy m due) (sym (same_due table armed ∙ e)) (omega arith)));
   work = λ e. absurd (cc);
 }
 
 pub waits_in_time : WaitsAreInTime
-waits_in_time table watched time lasts = (each_in_time table watched time lasts, places_in_time table watched time lasts)
+waits_in_time table armed time lasts = (each_in_time table armed time lasts, places_in_time table armed time lasts)

@@ -11,16 +11,16 @@ use Rattle.daide_io.specs.declared.system.Connect.TheVariants.{Ready, Failed}
 use Rattle.daide_io.specs.Streams.{StreamCall}
 use Rattle.daide_sockets.specs.Pairing.{Paired, RunSockets, Transits, pending_connects}
 use Rattle.daide_sockets.specs.Lingering.{ClosingStream}
-use Rattle.daide_sockets.specs.Beside.{WaitsAreInTimeBeside, may_close_on, closing_due, others_watched}
+use Rattle.daide_sockets.specs.Beside.{WaitsAreInTimeBeside, may_close_on, closing_due, others_armed}
 use Rattle.daide_sockets.specs.Accounted.{SocketsAreAccounted}
 use Rattle.daide_sockets.specs.PairedOnce.{SessionsComeOnce, one_if_same}
 use Rattle.daide_sockets.specs.ClosingTime.{ReadingsGoOn, overdue_looks, bound_of, readings_of, IsClosingInTime, ClosingSocketsLeave}
 use Rattle.daide_sockets.specs.Scheduling.{RunState, ClosesByClock}
 use Rattle.daide_sockets.specs.Table.{Table, IsPollTime}
-use Rattle.daide_sockets.specs.InTime.{WaitsAreInTime, IsInTimeFor, watching_all}
+use Rattle.daide_sockets.specs.InTime.{WaitsAreInTime, IsInTimeFor, arming_all}
 use Rattle.daide_sockets.specs.Control.{has_work_at}
 use Rattle.daide_sockets.specs.ControlInTime.{IsPlaceInTime, ControlWaitsAreInTime}
-use Rattle.daide_sockets.specs.ControlSlots.{is_place_free, has_free, may_accept_control, watching_control}
+use Rattle.daide_sockets.specs.ControlSlots.{is_place_free, has_free, may_accept_control, arming_control}
 use Rattle.daide_sockets.specs.declared.control.Control.{Control}
 use Rattle.daide_sockets.specs.declared.control.ControlListener.{ControlListener}
 use Rattle.daide_sockets.specs.declared.control_connection.ControlConnection.{ControlConnection}
@@ -41,22 +41,22 @@ never_twice to_give taken calls law pair old new a b none no_arrivals goes first
     absurd (omega (arith, most, one, other))
 
 -- of three that a poll watches, the second has work: the poll takes no time
-watched_work : WaitsAreInTime → (table : Table) (time : Duration) →
-    IsPollTime true (watching_all table ((false, None) ∷ (true, None) ∷ (false, None) ∷ [])) (Some time) → as_nanos time ≡ 0
-watched_work law table time lasts =
-    let watched = (false, None) ∷ (true, None) ∷ (false, None) ∷ [] in
-    let all = (law table watched (Some time) lasts).0 in
-    (All-contains (λ (s : Bool × Option Instant). IsInTimeFor table.reading (Some time) s.0 s.1) watched (true, None) all
+armed_work : WaitsAreInTime → (table : Table) (time : Duration) →
+    IsPollTime true (arming_all table ((false, None) ∷ (true, None) ∷ (false, None) ∷ [])) (Some time) → as_nanos time ≡ 0
+armed_work law table time lasts =
+    let armed = (false, None) ∷ (true, None) ∷ (false, None) ∷ [] in
+    let all = (law table armed (Some time) lasts).0 in
+    (All-contains (λ (s : Bool × Option Instant). IsInTimeFor table.reading (Some time) s.0 s.1) armed (true, None) all
     (1, omega arith, refl)).work refl
 
 -- of two the second has a deadline seven nanoseconds after the reading, which ends the poll within them
-watched_deadline : WaitsAreInTime → (table : Table) (time : Duration) (now late due : Instant) → table.reading ≡ Some now →
-    IsPollTime true (watching_all table ((false, Some late) ∷ (false, Some due) ∷ [])) (Some time) →
+armed_deadline : WaitsAreInTime → (table : Table) (time : Duration) (now late due : Instant) → table.reading ≡ Some now →
+    IsPollTime true (arming_all table ((false, Some late) ∷ (false, Some due) ∷ [])) (Some time) →
     instant_nanos due ≡ instant_nanos now + 7 → as_nanos time ≤ 7
-watched_deadline law table time now late due reading lasts seven =
-    let watched = (false, Some late) ∷ (false, Some due) ∷ [] in
-    let all = (law table watched (Some time) lasts).0 in
-    let most = (All-contains (λ (s : Bool × Option Instant). IsInTimeFor table.reading (Some time) s.0 s.1) watched
+armed_deadline law table time now late due reading lasts seven =
+    let armed = (false, Some late) ∷ (false, Some due) ∷ [] in
+    let all = (law table armed (Some time) lasts).0 in
+    let most = (All-contains (λ (s : Bool × Option Instant). IsInTimeFor table.reading (Some time) s.0 s.1) armed
     (false, Some due) all (1, omega arith, refl)).deadline now due reading refl in
     omega (arith, most, seven)
 
@@ -68,17 +68,17 @@ place_within_seven law table time now due reading first lasts seven =
     omega (arith, most, seven)
 
 -- with a deadline that it watches no poll is for ever
-watched_not_for_ever : WaitsAreInTime → (table : Table) (now due : Instant) → table.reading ≡ Some now →
-    IsPollTime true (watching_all table ((false, Some due) ∷ [])) None → ⊥
-watched_not_for_ever law table now due reading lasts =
-    let watched = (false, Some due) ∷ [] in
-    (All-contains (λ (s : Bool × Option Instant). IsInTimeFor table.reading None s.0 s.1) watched (false, Some due)
-    (law table watched None lasts).0 (0, omega arith, refl)).deadline now due reading refl
+armed_not_for_ever : WaitsAreInTime → (table : Table) (now due : Instant) → table.reading ≡ Some now →
+    IsPollTime true (arming_all table ((false, Some due) ∷ [])) None → ⊥
+armed_not_for_ever law table now due reading lasts =
+    let armed = (false, Some due) ∷ [] in
+    (All-contains (λ (s : Bool × Option Instant). IsInTimeFor table.reading None s.0 s.1) armed (false, Some due)
+    (law table armed None lasts).0 (0, omega arith, refl)).deadline now due reading refl
 
 -- while a byte is buffered for a closing stream that is writable, a poll takes no time
 closing_goes_out : {S : Type 0} → WaitsAreInTimeBeside S → (table : Table) (time : Duration) (closing : ClosingStream S) →
     closing.stream.has_failed ≡ false → closing.stream.write_buffer ≡ 7 ∷ [] → closing.known.may_write ≡ true →
-    IsPollTime true (watching_all table (others_watched {S = S} table (false, None) (closing ∷ []))) (Some time) →
+    IsPollTime true (arming_all table (others_armed {S = S} table (false, None) (closing ∷ []))) (Some time) →
     as_nanos time ≡ 0
 closing_goes_out {S} law table time closing failed held may lasts =
     let goes : may_close_on table closing ≡ true = rw (failed, held, may) refl in
@@ -99,7 +99,7 @@ given_up_closes_one to_give taken calls law pair old new none no_arrivals no_clo
 control_is_read : (S : Type 0) → ControlWaitsAreInTime S → (table : Table) (control : Control S)
     (connection : ControlConnection S) (time : Duration) → control.slots.second ≡ Some connection →
     connection.stage ≡ Reads → connection.readiness.may_read ≡ true →
-    IsPollTime true (watching_control table control) (Some time) → as_nanos time ≡ 0
+    IsPollTime true (arming_control table control) (Some time) → as_nanos time ≡ 0
 control_is_read S law table control connection time second reads ready lasts =
     let InTime : Option (ControlConnection S) → Type 0 = IsPlaceInTime table.reading (Some time) in
     let rest = control.slots.third ∷ control.slots.fourth ∷ [] in
@@ -112,7 +112,7 @@ control_is_read S law table control connection time second reads ready lasts =
 -- while the first place is free, and the listener may give a connection, a poll takes no time
 control_is_accepted : (S : Type 0) → ControlWaitsAreInTime S → (table : Table) (control : Control S)
     (listener : ControlListener) (time : Duration) → control.slots.first ≡ None → control.listener ≡ Some listener →
-    may_accept_control table listener ≡ true → IsPollTime true (watching_control table control) (Some time) →
+    may_accept_control table listener ≡ true → IsPollTime true (arming_control table control) (Some time) →
     as_nanos time ≡ 0
 control_is_accepted S law table control listener time free there ready lasts =
     ((law table control [] (Some time) lasts).listener listener (ap (λ (p : Option (ControlConnection S)).

@@ -50,8 +50,8 @@ module _ {S : Type 0} (n : ℕ) where
         let b : to_come n new.came ≡ to_come n old.came = ap (to_come n) came in
         omega (arith, a, b)
 
-    one : (answer : SystemCall P) (old new : RunSockets S) → Transits to_give taken calls pair old answer new →
-        handed pair n (answer ∷ []) + left new ≤ left old
+    one : (call : SystemCall P) (old new : RunSockets S) → Transits to_give taken calls pair old call new →
+        handed pair n (call ∷ []) + left new ≤ left old
     one (Polls may_block woken orders) old new h = let e = kept old new h.0 h.1 in omega (arith, e)
     one (Shows ports status) old new h = let e : left new ≡ left old = ap left h in omega (arith, e)
     one (BeginsTurn place before after) old new h = let e : left new ≡ left old = ap left h in omega (arith, e)
@@ -80,32 +80,32 @@ module _ {S : Type 0} (n : ℕ) where
     one (Retires place ports end) old new h = let e = kept old new h.1 h.2 in omega (arith, e)
     one (Notifies notice) old new h = let e : left new ≡ left old = ap left h in omega (arith, e)
 
-    handed_first : (answer : SystemCall P) (answers : List (SystemCall P)) →
-        handed pair n (answer ∷ answers) ≡ handed pair n (answer ∷ []) + handed pair n answers
-    handed_first (Polls may_block woken orders) answers = omega (arith)
-    handed_first (Shows ports status) answers = omega (arith)
-    handed_first (BeginsTurn place before after) answers = omega (arith)
-    handed_first (Rests place ports rests) answers = omega (arith)
-    handed_first (Accepts place came) answers = omega (arith)
-    handed_first (Connects place (Ready ports)) answers = omega (arith)
-    handed_first (Connects place Failed) answers = omega (arith)
-    handed_first (Connects place Pending) answers = omega (arith)
-    handed_first (Retires place ports end) answers = omega (arith)
-    handed_first (Notifies notice) answers = omega (arith)
+    handed_first : (call : SystemCall P) (trace : List (SystemCall P)) →
+        handed pair n (call ∷ trace) ≡ handed pair n (call ∷ []) + handed pair n trace
+    handed_first (Polls may_block woken orders) trace = omega (arith)
+    handed_first (Shows ports status) trace = omega (arith)
+    handed_first (BeginsTurn place before after) trace = omega (arith)
+    handed_first (Rests place ports rests) trace = omega (arith)
+    handed_first (Accepts place came) trace = omega (arith)
+    handed_first (Connects place (Ready ports)) trace = omega (arith)
+    handed_first (Connects place Failed) trace = omega (arith)
+    handed_first (Connects place Pending) trace = omega (arith)
+    handed_first (Retires place ports end) trace = omega (arith)
+    handed_first (Notifies notice) trace = omega (arith)
 
-    all : (answers : List (SystemCall P)) (old new : RunSockets S) →
-        TransitsBy (Transits to_give taken calls pair) old answers new → handed pair n answers ≤ left old
+    all : (trace : List (SystemCall P)) (old new : RunSockets S) →
+        TransitsBy (Transits to_give taken calls pair) old trace new → handed pair n trace ≤ left old
     all [] old new h = omega (arith)
-    all (answer ∷ answers) old new h =
-        let a = one answer old h.0 h.1 in
-        let b = all answers h.0 new h.2 in
-        let c = handed_first answer answers in
+    all (call ∷ trace) old new h =
+        let a = one call old h.0 h.1 in
+        let b = all trace h.0 new h.2 in
+        let c = handed_first call trace in
         omega (arith, a, b, c)
 
-    pub come_once : (old new : RunSockets S) (answers : List (SystemCall P)) → old.came ≡ 0 → pending_connects old.arrivals ≡ 0 →
-        TransitsBy (Transits to_give taken calls pair) old answers new → handed pair n answers ≤ 1
-    come_once old new answers came arrivals h =
-        let a = all answers old new h in
+    pub come_once : (old new : RunSockets S) (trace : List (SystemCall P)) → old.came ≡ 0 → pending_connects old.arrivals ≡ 0 →
+        TransitsBy (Transits to_give taken calls pair) old trace new → handed pair n trace ≤ 1
+    come_once old new trace came arrivals h =
+        let a = all trace old new h in
         let b = none_pending old.arrivals arrivals in
         let c = at_most_one n old.came in
         omega (arith, a, b, c)

@@ -27,11 +27,11 @@ own_key : (place places : ℕ) (side : Side) → place < places → key_of place
 own_key place places Bot lt = omega (arith, lt)
 own_key place places Server lt = omega (arith, lt)
 
-pub polls_places : {N C : Type 0} (transition : N → NetworkCall C → N → Type 0) (time : Option Duration) (news : List SocketEvent)
+pub polls_places : {N C : Type 0} (transition : N → NetworkCall C → N → Type 0) (time : Option Duration) (socket_events : List SocketEvent)
     (woken : List ℕ) (old : N) (before : Table) (new : N) (mid after : Table) →
-    (polls : PollsOnce transition time old before new mid) → polls.news ≡ news → WakesPlaces news woken mid after →
+    (polls : PollsOnce transition time old before new mid) → polls.socket_events ≡ socket_events → WakesPlaces socket_events woken mid after →
     PollsPlaces transition time woken old before new after
-polls_places transition time news woken old before new mid after polls same wakes = record {
+polls_places transition time socket_events woken old before new mid after polls same wakes = record {
   reported = mid;
   polls = polls;
   asleep = λ place lt away. (
@@ -56,10 +56,10 @@ polls_places transition time news woken old before new mid after polls same wake
     reports : (place : ℕ) → place < length before.deadlines → is_among place woken ≡ false → (side : Side) →
         report_at after (key_of place side) ≡ report_at before (key_of place side)
     reports place lt away side =
-        let none = unreported place (event_places (2 * length mid.deadlines) news) woken (wakes.reported place) away in
+        let none = unreported place (event_places (2 * length mid.deadlines) socket_events) woken (wakes.reported place) away in
         ap (λ (t : Table). report_at t (key_of place side)) wakes.same
         ∙ ap (λ (t : Table). report_at t (key_of place side)) polls.table
         ∙ ap (λ (events : List SocketEvent). (row_at (with_events before.rows events) (key_of place side)).report) same
         ∙ ap (λ (row : Row). row.report)
-        (row_untouched (2 * length mid.deadlines) place side news before.rows
+        (row_untouched (2 * length mid.deadlines) place side socket_events before.rows
         (own_key place (length mid.deadlines) side (omega (arith, lt, count))) none)

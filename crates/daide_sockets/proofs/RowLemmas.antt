@@ -366,6 +366,6 @@ pub polls_hold : {N C : Type 0} (transition : N → NetworkCall C → N → Type
     AreRowsOf after keys
 polls_hold transition time old before new after keys h =
     held_alike before after keys
-    (λ key. ap (λ (t : Table). taken_at t key) h.table ∙ ap one_if (events_bits before.rows h.news key))
-    (ap (λ (t : Table). length t.rows) h.table ∙ length_with before.rows h.news)
+    (λ key. ap (λ (t : Table). taken_at t key) h.table ∙ ap one_if (events_bits before.rows h.socket_events key))
+    (ap (λ (t : Table). length t.rows) h.table ∙ length_with before.rows h.socket_events)
     (ap (λ (t : Table). length t.deadlines) h.table)

@@ -10,13 +10,13 @@ use Rattle.daide_io.specs.Network.{NetworkCall}
 use Rattle.daide_io.specs.ReadyQueue.{is_among, occurrences_of, is_same, one_if}
 use Rattle.daide_io.specs.declared.network.SocketEvent.{SocketEvent}
 use Rattle.daide_sockets.specs.Control.{has_control_work, control_due}
-use Rattle.daide_sockets.specs.ControlSlots.{IsControlRow, has_free, may_accept_control, places, watching_control, watching_listener, watching_places}
+use Rattle.daide_sockets.specs.ControlSlots.{IsControlRow, has_free, may_accept_control, places, arming_control, arming_listener, arming_places}
 use Rattle.daide_sockets.specs.KeptRows.{ChangesRows}
 use Rattle.daide_sockets.specs.Rows.{AreRowsOf, KeepsClosingRows, taken_at}
 use Rattle.daide_sockets.specs.Table.{Table, IsPollTime, PollsOnce, changed, deadline_at, deadline_in, first_closing, key_of, latest, listener_key}
-use Rattle.daide_sockets.specs.Table.{merged, report_at, report_of, row_at, unwatched, watching, with_event, with_events}
+use Rattle.daide_sockets.specs.Table.{merged, report_at, report_of, row_at, disarmed, arming, with_event, with_events}
 use Rattle.daide_sockets.specs.Times.{is_past}
-use Rattle.daide_sockets.specs.InTime.{watching_all}
+use Rattle.daide_sockets.specs.InTime.{arming_all}
 use Rattle.daide_sockets.specs.Wakeups.{GoesUnpolled, KeepsPlace, PollsForPlaces, PollsPlaces}
 use Rattle.daide_sockets.specs.declared.control.Control.{Control}
 use Rattle.daide_sockets.specs.declared.control.ControlListener.{ControlListener}
@@ -28,50 +28,50 @@ use Rattle.daide_sockets.proofs.KeptRowLemmas.{holds_rows, same_holds}
 -- ---- what is watched changes nothing else
 
 -- nothing changed but what is watched
-abbrev pub IsWatched : Table → Table → Type 0
-IsWatched old new = new ≡ record old { watched_work = new.watched_work; watched_due = new.watched_due }
+abbrev pub IsArmed : Table → Table → Type 0
+IsArmed old new = new ≡ record old { armed_work = new.armed_work; armed_due = new.armed_due }
 
-watched_then : (old mid new : Table) → IsWatched old mid → IsWatched mid new → IsWatched old new
-watched_then old mid new h k =
-    k ∙ ap (λ (t : Table). record t { watched_work = new.watched_work; watched_due = new.watched_due }) h
+armed_then : (old mid new : Table) → IsArmed old mid → IsArmed mid new → IsArmed old new
+armed_then old mid new h k =
+    k ∙ ap (λ (t : Table). record t { armed_work = new.armed_work; armed_due = new.armed_due }) h
 
-pub watched_all : (table : Table) (others : List (Bool × Option Instant)) → IsWatched table (watching_all table others)
-watched_all table [] = refl
-watched_all table (one ∷ others) =
-    watched_then table (watching table one.0 one.1) (watching_all (watching table one.0 one.1) others) refl
-    (watched_all (watching table one.0 one.1) others)
+pub armed_all : (table : Table) (others : List (Bool × Option Instant)) → IsArmed table (arming_all table others)
+armed_all table [] = refl
+armed_all table (one ∷ others) =
+    armed_then table (arming table one.0 one.1) (arming_all (arming table one.0 one.1) others) refl
+    (armed_all (arming table one.0 one.1) others)
 
-watched_places : {S : Type 0} (table : Table) (rest : List (Option (ControlConnection S))) → IsWatched table (watching_places table rest)
-watched_places table [] = refl
-watched_places table (None ∷ rest) = watched_places table rest
-watched_places table (Some connection ∷ rest) =
-    let next = watching table (has_control_work connection) (control_due connection) in
-    watched_then table next (watching_places next rest) refl (watched_places next rest)
+armed_places : {S : Type 0} (table : Table) (rest : List (Option (ControlConnection S))) → IsArmed table (arming_places table rest)
+armed_places table [] = refl
+armed_places table (None ∷ rest) = armed_places table rest
+armed_places table (Some connection ∷ rest) =
+    let next = arming table (has_control_work connection) (control_due connection) in
+    armed_then table next (arming_places next rest) refl (armed_places next rest)
 
-watched_listener : (table : Table) (has_room : Bool) (found : Option ControlListener) →
-    IsWatched table (watching_listener table has_room found)
-watched_listener table has_room None = refl
-watched_listener table true (Some listener) = refl
-watched_listener table false (Some listener) = refl
+armed_listener : (table : Table) (has_room : Bool) (found : Option ControlListener) →
+    IsArmed table (arming_listener table has_room found)
+armed_listener table has_room None = refl
+armed_listener table true (Some listener) = refl
+armed_listener table false (Some listener) = refl
 
-pub watched_control : {S : Type 0} (table : Table) (control : Control S) → IsWatched table (watching_control table control)
-watched_control table control =
-    let first = watching_listener table (has_free (places control.slots)) control.listener in
-    watched_then table first (watching_places first (places control.slots))
-    (watched_listener table (has_free (places control.slots)) control.listener)
-    (watched_places first (places control.slots))
+pub armed_control : {S : Type 0} (table : Table) (control : Control S) → IsArmed table (arming_control table control)
+armed_control table control =
+    let first = arming_listener table (has_free (places control.slots)) control.listener in
+    armed_then table first (arming_places first (places control.slots))
+    (armed_listener table (has_free (places control.slots)) control.listener)
+    (armed_places first (places control.slots))
 
 -- the time of a poll that may block is that of a table in which others are watched; that of any other is of none
-pub blocks_watched : (may_block : Bool) (base watched : Table) (others : List (Bool × Option Instant)) (time : Option Duration) →
-    (may_block ≡ true → watched ≡ watching_all base others) → IsPollTime may_block watched time →
-    IsPollTime may_block (watching_all base others) time
-blocks_watched true base watched others time h lasts = subst (λ (t : Table). IsPollTime true t time) (h refl) lasts
-blocks_watched false base watched others time h lasts = lasts
+pub blocks_armed : (may_block : Bool) (base armed : Table) (others : List (Bool × Option Instant)) (time : Option Duration) →
+    (may_block ≡ true → armed ≡ arming_all base others) → IsPollTime may_block armed time →
+    IsPollTime may_block (arming_all base others) time
+blocks_armed true base armed others time h lasts = subst (λ (t : Table). IsPollTime true t time) (h refl) lasts
+blocks_armed false base armed others time h lasts = lasts
 
-pub is_watched : (may_block : Bool) (base watched : Table) (others : List (Bool × Option Instant)) →
-    (may_block ≡ true → watched ≡ watching_all base others) → (may_block ≡ false → watched ≡ base) → IsWatched base watched
-is_watched true base watched others on off = subst (IsWatched base) (sym (on refl)) (watched_all base others)
-is_watched false base watched others on off = subst (IsWatched base) (sym (off refl)) refl
+pub is_armed : (may_block : Bool) (base armed : Table) (others : List (Bool × Option Instant)) →
+    (may_block ≡ true → armed ≡ arming_all base others) → (may_block ≡ false → armed ≡ base) → IsArmed base armed
+is_armed true base armed others on off = subst (IsArmed base) (sym (on refl)) (armed_all base others)
+is_armed false base armed others on off = subst (IsArmed base) (sym (off refl)) refl
 
 -- ---- rows stay taken through a poll
 
@@ -122,65 +122,65 @@ among_last place other xs same =
     grind (arith, all, one, own)
 
 module _ {N C S : Type 0} (transition : N → NetworkCall C → N → Type 0) (time : Option Duration) (woken more : List ℕ)
-    (network polled_network new_network : N) (before watched polled first second third last : Table) (given left : List ℕ)
-    (control : Control S) (same_watched : IsWatched before watched)
-    (polls : PollsPlaces transition time woken network watched polled_network polled) (forgets : first ≡ unwatched polled)
+    (network polled_network new_network : N) (before armed polled first second third last : Table) (given left : List ℕ)
+    (control : Control S) (same_armed : IsArmed before armed)
+    (polls : PollsPlaces transition time woken network armed polled_network polled) (forgets : first ≡ disarmed polled)
     (advances : KeepsClosingRows first given second left) (orders : ChangesRows (IsControlRow second) second third)
-    (watches : last ≡ watching_control third control) where
-  abbrev news : List SocketEvent
-  news = polls.polls.news
+    (arms : last ≡ arming_control third control) where
+  abbrev socket_events : List SocketEvent
+  socket_events = polls.polls.socket_events
 
   -- what the poll reported, in the table before it
   abbrev reported : Table
   reported = record before {
     reading = latest before.reading polls.polls.reading;
-    rows = with_events before.rows news;
+    rows = with_events before.rows socket_events;
   }
 
   polled_is : polled ≡ record polls.reported { deadlines = polled.deadlines; due = polled.due }
   polled_is = polls.same
 
-  reported_rows : polls.reported.rows ≡ with_events before.rows news
+  reported_rows : polls.reported.rows ≡ with_events before.rows socket_events
   reported_rows = ap (λ (t : Table). t.rows) polls.polls.table
-      ∙ ap (λ (t : Table). with_events t.rows news) same_watched
+      ∙ ap (λ (t : Table). with_events t.rows socket_events) same_armed
 
   reported_reading : polls.reported.reading ≡ latest before.reading polls.polls.reading
   reported_reading = ap (λ (t : Table). t.reading) polls.polls.table
-      ∙ ap (λ (t : Table). latest t.reading polls.polls.reading) same_watched
+      ∙ ap (λ (t : Table). latest t.reading polls.polls.reading) same_armed
 
-  first_rows : first.rows ≡ with_events before.rows news
+  first_rows : first.rows ≡ with_events before.rows socket_events
   first_rows = ap (λ (t : Table). t.rows) forgets ∙ ap (λ (t : Table). t.rows) polled_is ∙ reported_rows
 
   first_deadlines : first.deadlines ≡ polled.deadlines
   first_deadlines = ap (λ (t : Table). t.deadlines) forgets
 
   last_rows : last.rows ≡ third.rows
-  last_rows = ap (λ (t : Table). t.rows) (watches ∙ watched_control third control)
+  last_rows = ap (λ (t : Table). t.rows) (arms ∙ armed_control third control)
 
   last_deadlines : last.deadlines ≡ polled.deadlines
-  last_deadlines = ap (λ (t : Table). t.deadlines) (watches ∙ watched_control third control)
+  last_deadlines = ap (λ (t : Table). t.deadlines) (arms ∙ armed_control third control)
       ∙ ap (λ (t : Table). t.deadlines) orders.same ∙ ap (λ (t : Table). t.deadlines) advances.same ∙ first_deadlines
 
   reading_stays : last.reading ≡ first.reading
-  reading_stays = ap (λ (t : Table). t.reading) (watches ∙ watched_control third control)
+  reading_stays = ap (λ (t : Table). t.reading) (arms ∙ armed_control third control)
       ∙ ap (λ (t : Table). t.reading) orders.same ∙ ap (λ (t : Table). t.reading) advances.same
 
   last_reading : last.reading ≡ polled.reading
   last_reading = reading_stays ∙ ap (λ (t : Table). t.reading) forgets
 
-  watched_deadlines : watched.deadlines ≡ before.deadlines
-  watched_deadlines = ap (λ (t : Table). t.deadlines) same_watched
+  armed_deadlines : armed.deadlines ≡ before.deadlines
+  armed_deadlines = ap (λ (t : Table). t.deadlines) same_armed
 
   count : length polled.deadlines ≡ length before.deadlines
-  count = polls.places ∙ ap length watched_deadlines
+  count = polls.places ∙ ap length armed_deadlines
 
   second_count : length second.deadlines ≡ length before.deadlines
   second_count = ap (λ (t : Table). length t.deadlines) advances.same ∙ ap length first_deadlines ∙ count
 
   first_holds : AreRowsOf before given → AreRowsOf first given
   first_holds rows = same_holds before first given (ap length first_deadlines ∙ count)
-      (ap length first_rows ∙ events_count news before.rows)
-      (λ key. ap (λ (r : List Row). (row_at r key).is_taken) first_rows ∙ events_taken news before.rows key) rows
+      (ap length first_rows ∙ events_count socket_events before.rows)
+      (λ key. ap (λ (r : List Row). (row_at r key).is_taken) first_rows ∙ events_taken socket_events before.rows key) rows
 
   -- each taken row stays that of one closing stream
   holds : AreRowsOf before given → AreRowsOf last left
@@ -192,14 +192,14 @@ module _ {N C S : Type 0} (transition : N → NetworkCall C → N → Type 0) (t
 
   -- a row up to the listener's keeps what was reported
   row_kept : AreRowsOf before given → (key : ℕ) → key ≤ listener_key before →
-      row_at last.rows key ≡ row_at (with_events before.rows news) key
+      row_at last.rows key ≡ row_at (with_events before.rows socket_events) key
   row_kept rows key le =
       let below : key < first_closing first = let same = ap length first_deadlines ∙ count in omega (arith, le, same) in
       ap (λ (r : List Row). row_at r key) last_rows
       ∙ orders.others key (λ own. absurd (let lt = own.0 in let same = second_count in omega (arith, lt, le, same)))
       ∙ advances.others (first_holds rows) key below ∙ ap (λ (r : List Row). row_at r key) first_rows
 
-  polled_rows : polled.rows ≡ with_events before.rows news
+  polled_rows : polled.rows ≡ with_events before.rows socket_events
   polled_rows = ap (λ (t : Table). t.rows) polled_is ∙ reported_rows
 
   place_key : (place : ℕ) (side : Side) → place < length before.deadlines → key_of place side ≤ listener_key before
@@ -221,7 +221,7 @@ module _ {N C S : Type 0} (transition : N → NetworkCall C → N → Type 0) (t
       grind (arith, none, all)
 
   polls_for_places : AreRowsOf before given → (others : List (Bool × Option Instant)) (may_block : Bool) →
-      IsPollTime may_block (watching_all before others) time → GoesUnpolled transition polled_network new_network →
+      IsPollTime may_block (arming_all before others) time → GoesUnpolled transition polled_network new_network →
       PollsForPlaces transition others may_block (woken ++ more) network before new_network last
   polls_for_places rows others may_block lasts goes = record {
     time = time;
@@ -229,7 +229,7 @@ module _ {N C S : Type 0} (transition : N → NetworkCall C → N → Type 0) (t
     reported = reported;
     lasts = lasts;
     polls = record {
-      news = news;
+      socket_events = socket_events;
       polled = polls.polls.polled;
       reading = polls.polls.reading;
       polls = polls.polls.polls;
@@ -240,12 +240,12 @@ module _ {N C S : Type 0} (transition : N → NetworkCall C → N → Type 0) (t
     reading = last_reading ∙ ap (λ (t : Table). t.reading) polled_is ∙ reported_reading;
     reports = λ key le. ap (λ (r : Row). r.report) (row_kept rows key le);
     asleep = λ place lt none.
-        let lt_watched : place < length watched.deadlines = let same = ap length watched_deadlines in omega (arith, lt, same) in
-        let asleep = polls.asleep place lt_watched (first_not place none) in (
+        let lt_armed : place < length armed.deadlines = let same = ap length armed_deadlines in omega (arith, lt, same) in
+        let asleep = polls.asleep place lt_armed (first_not place none) in (
           record {
             reports = λ side. report_kept rows place side lt ∙ asleep.0.reports side
-                ∙ ap (λ (t : Table). report_at t (key_of place side)) same_watched;
-            deadline = deadline_kept place ∙ asleep.0.deadline ∙ ap (λ (t : Table). deadline_at t place) same_watched;
+                ∙ ap (λ (t : Table). report_at t (key_of place side)) same_armed;
+            deadline = deadline_kept place ∙ asleep.0.deadline ∙ ap (λ (t : Table). deadline_at t place) same_armed;
           },
           ap (λ (d : Option Instant). is_past last.reading d) (deadline_kept place)
               ∙ ap (λ (r : Option Instant). is_past r (deadline_at polled place)) last_reading ∙ asleep.1,
@@ -254,7 +254,7 @@ module _ {N C S : Type 0} (transition : N → NetworkCall C → N → Type 0) (t
 
   -- the poll of a run: the places stay, and the clock is not read again; the rows stay those of closing streams
   pub polls_run : (others : List (Bool × Option Instant)) (may_block : Bool) →
-      IsPollTime may_block (watching_all before others) time → GoesUnpolled transition polled_network new_network →
+      IsPollTime may_block (arming_all before others) time → GoesUnpolled transition polled_network new_network →
       (length last.deadlines ≡ length before.deadlines) × (last.reading ≡ first.reading)
       × (AreRowsOf before given → AreRowsOf last left
       × PollsForPlaces transition others may_block (woken ++ more) network before new_network last)

@@ -6,8 +6,8 @@ use Rattle.daide_io.specs.Network.{NetworkCall}
 use Rattle.daide_io.specs.System.{Polls}
 use Rattle.daide_io.specs.declared.system.Orders.{Orders}
 use Rattle.daide_sockets.specs.Accepting.{is_bot_due}
-use Rattle.daide_sockets.specs.Beside.{listener_watched, others_watched}
-use Rattle.daide_sockets.specs.InTime.{watching_all}
+use Rattle.daide_sockets.specs.Beside.{listener_armed, others_armed}
+use Rattle.daide_sockets.specs.InTime.{arming_all}
 use Rattle.daide_sockets.specs.Scheduling.{RunState, Schedules, AwaitsBots}
 use Rattle.daide_sockets.specs.Table.{IsNoTime, IsPollTime}
 use Rattle.daide_sockets.specs.Timers.{SessionTimers}
@@ -23,13 +23,13 @@ module _ {N C P S : Type 0} (transition : N → NetworkCall C → N → Type 0) 
     awaits = λ due. by may_block h.1.time h.1.lasts (both due);
   }
     where
-      both : is_bot_due old.table old.acceptor ≡ true → (listener_watched old.table old.acceptor).0 ≡ true
+      both : is_bot_due old.table old.acceptor ≡ true → (listener_armed old.table old.acceptor).0 ≡ true
       both due = ap (λ (b : Bool). b && is_bot_due old.table old.acceptor) awaited ∙ due
 
       by : (may_block : Bool) (time : Option Duration) →
-          IsPollTime may_block (watching_all old.table (others_watched old.table
-          (listener_watched old.table old.acceptor) old.closing.streams)) time →
-          (listener_watched old.table old.acceptor).0 ≡ true → IsNoTime time
+          IsPollTime may_block (arming_all old.table (others_armed old.table
+          (listener_armed old.table old.acceptor) old.closing.streams)) time →
+          (listener_armed old.table old.acceptor).0 ≡ true → IsNoTime time
       by false time lasts due = lasts
       by true time lasts due =
-          (beside_in_time old.table time (listener_watched old.table old.acceptor) old.closing.streams lasts).accepts.work due
+          (beside_in_time old.table time (listener_armed old.table old.acceptor) old.closing.streams lasts).accepts.work due

@@ -7,7 +7,7 @@ use Rattle.daide_buffered_io.specs.Buffers.{Buffer}
 use Rattle.daide_io.specs.Deadline.{earlier}
 use Rattle.daide_sockets.specs.declared.admission.Acceptor.{Acceptor}
 use Rattle.daide_sockets.specs.Accepting.{is_bot_due}
-use Rattle.daide_sockets.specs.InTime.{IsInTimeFor, watching_all}
+use Rattle.daide_sockets.specs.InTime.{IsInTimeFor, arming_all}
 use Rattle.daide_sockets.specs.Lingering.{ClosingStream}
 use Rattle.daide_sockets.specs.Sockets.{is_some_byte}
 use Rattle.daide_sockets.specs.Table.{Table, IsPollTime, merged, report_at}
@@ -35,23 +35,23 @@ abbrev pub closing_due : {S : Type 0} → ClosingStream S → Option Instant
 closing_due closing = earlier (stage_due closing) closing.closes_at
 
 -- each closing stream, as a poll watches it
-abbrev pub closings_watched : {S : Type 0} → Table → List (ClosingStream S) → List (Bool × Option Instant)
-closings_watched table [] = []
-closings_watched table (closing ∷ others) =
-    (may_close_on table closing, closing_due closing) ∷ closings_watched table others
+abbrev pub closings_armed : {S : Type 0} → Table → List (ClosingStream S) → List (Bool × Option Instant)
+closings_armed table [] = []
+closings_armed table (closing ∷ others) =
+    (may_close_on table closing, closing_due closing) ∷ closings_armed table others
 
 -- ---- the listener
 
 -- The listener, as a poll watches it: whether the poll is for bots too and an accept is due; and the end of the pause of
 -- accepts.
-abbrev pub listener_watched : Table → Acceptor → Bool × Option Instant
-listener_watched table acceptor = (acceptor.awaits_bots && is_bot_due table acceptor, acceptor.resumes_at)
+abbrev pub listener_armed : Table → Acceptor → Bool × Option Instant
+listener_armed table acceptor = (acceptor.awaits_bots && is_bot_due table acceptor, acceptor.resumes_at)
 
 -- ---- a poll
 
 -- the listener, whether an accept is awaited and due and until when none is made; then the closing streams
-abbrev pub others_watched : {S : Type 0} → Table → Bool × Option Instant → List (ClosingStream S) → List (Bool × Option Instant)
-others_watched table listener closings = listener ∷ closings_watched table closings
+abbrev pub others_armed : {S : Type 0} → Table → Bool × Option Instant → List (ClosingStream S) → List (Bool × Option Instant)
+others_armed table listener closings = listener ∷ closings_armed table closings
 
 -- A poll of this time is in time for the listener and for each closing stream. It takes no time if an accept is awaited and
 -- due, or a closing stream may do something at once. It lasts at most until the end of the pause of accepts, and until the
@@ -65,5 +65,5 @@ pub record IsInTimeBeside {S : Type 0} (table : Table) (time : Option Duration) 
 abbrev pub WaitsAreInTimeBeside : Type 0 → Type 0
 WaitsAreInTimeBeside S = (table : Table) (time : Option Duration) (listener : Bool × Option Instant)
     (closings : List (ClosingStream S)) →
-    IsPollTime true (watching_all table (others_watched table listener closings)) time →
+    IsPollTime true (arming_all table (others_armed table listener closings)) time →
     IsInTimeBeside table time listener closings

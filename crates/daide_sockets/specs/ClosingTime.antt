@@ -31,10 +31,10 @@ ReadingsGoOn stall start (reading ∷ readings) last = (before : Instant) × Rea
 
 -- the readings of the clock that the table of a run had, before each of these calls and after the last
 abbrev pub readings_of : {N P S : Type 0} (transition : RunState N S → SystemCall P → RunState N S → Type 0)
-    (answers : List (SystemCall P)) (old new : RunState N S) → TransitsBy transition old answers new → List (Option Instant)
+    (trace : List (SystemCall P)) (old new : RunState N S) → TransitsBy transition old trace new → List (Option Instant)
 readings_of transition [] old new by = old.table.reading ∷ []
-readings_of transition (answer ∷ answers) old new by =
-    old.table.reading ∷ readings_of transition answers by.0 new by.2
+readings_of transition (call ∷ trace) old new by =
+    old.table.reading ∷ readings_of transition trace by.0 new by.2
 
 -- ---- a closing stream
 
@@ -91,7 +91,7 @@ module _ {S : Type 0} (to_give taken : S → Option (List ℕ)) (calls : S → O
   -- Sockets of a run of which none closed, after any trace of system calls: each closing stream is in time, by the readings
   -- of the clock that the table of the run had. `pair` is the content of ports.
   abbrev pub ClosingSocketsLeave : Type 0 → Type 0 → Type 0
-  ClosingSocketsLeave N P = (pair : P → Paired S) (old new : RunState N S) (answers : List (SystemCall P)) (stall : Duration) →
+  ClosingSocketsLeave N P = (pair : P → Paired S) (old new : RunState N S) (trace : List (SystemCall P)) (stall : Duration) →
       old.closing.streams ≡ [] → old.closing.stall_time ≡ Some stall →
-      (by : TransitsBy (ClosesByClock to_give taken calls pair) old answers new) →
-      All (IsClosingInTime stall (readings_of (ClosesByClock to_give taken calls pair) answers old new by)) new.closing.streams
+      (by : TransitsBy (ClosesByClock to_give taken calls pair) old trace new) →
+      All (IsClosingInTime stall (readings_of (ClosesByClock to_give taken calls pair) trace old new by)) new.closing.streams

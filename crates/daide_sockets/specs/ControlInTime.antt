@@ -3,8 +3,8 @@ use Rattle.std.specs.Prelude.{◌≡◌, Bool, true, List, Option, Some, None, A
 use Rattle.std.specs.declared.time.Duration.{Duration}
 use Rattle.std.specs.declared.time.Instant.{Instant}
 use Rattle.daide_sockets.specs.Control.{has_control_work, control_due}
-use Rattle.daide_sockets.specs.ControlSlots.{places, has_free, may_accept_control, watching_control}
-use Rattle.daide_sockets.specs.InTime.{IsInTimeFor, watching_all}
+use Rattle.daide_sockets.specs.ControlSlots.{places, has_free, may_accept_control, arming_control}
+use Rattle.daide_sockets.specs.InTime.{IsInTimeFor, arming_all}
 use Rattle.daide_sockets.specs.Table.{Table, IsPollTime}
 use Rattle.daide_sockets.specs.declared.control.Control.{Control}
 use Rattle.daide_sockets.specs.declared.control.ControlListener.{ControlListener}
@@ -27,5 +27,5 @@ pub record IsControlInTime {S : Type 0} (table : Table) (time : Option Duration)
 -- each poll that may block is in time for the control socket that it watches, whatever it watches beside it
 abbrev pub ControlWaitsAreInTime : (S : Type 0) → Type 0
 ControlWaitsAreInTime S = (table : Table) (control : Control S) (others : List (Bool × Option Instant))
-    (time : Option Duration) → IsPollTime true (watching_all (watching_control table control) others) time →
+    (time : Option Duration) → IsPollTime true (arming_all (arming_control table control) others) time →
     IsControlInTime table time control

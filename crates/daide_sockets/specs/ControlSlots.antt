@@ -9,7 +9,7 @@ use Rattle.daide_status.specs.declared.snapshot.RunStatus.{RunStatus}
 use Rattle.daide_status.specs.declared.snapshot.SessionRow.{SessionRow}
 use Rattle.daide_sockets.specs.Accepting.{is_accept_due}
 use Rattle.daide_sockets.specs.Control.{Advances, ShowsOn, has_control_work, control_due, stops_at, stops_now_at, gathers_at}
-use Rattle.daide_sockets.specs.Table.{Table, control_connection_key, control_key, first_closing, listener_key, merged, report_at, watching}
+use Rattle.daide_sockets.specs.Table.{Table, control_connection_key, control_key, first_closing, listener_key, merged, report_at, arming}
 use Rattle.daide_sockets.specs.Times.{IsAfter}
 use Rattle.daide_sockets.specs.declared.control.Control.{Control}
 use Rattle.daide_sockets.specs.declared.control.ControlListener.{ControlListener}
@@ -100,14 +100,14 @@ AcceptsOne {S} reading old new = (new ≡ old)
     ⊎ ((connection : ControlConnection S) × (has_free old ≡ true) × IsAccepted reading connection × (new ≡ with_one connection old))
 
 -- the next poll is also to watch the connection of a place
-abbrev pub watching_place : {S : Type 0} → Table → Option (ControlConnection S) → Table
-watching_place table None = table
-watching_place table (Some connection) = watching table (has_control_work connection) (control_due connection)
+abbrev pub arming_place : {S : Type 0} → Table → Option (ControlConnection S) → Table
+arming_place table None = table
+arming_place table (Some connection) = arming table (has_control_work connection) (control_due connection)
 
 -- and those of all places
-abbrev pub watching_places : {S : Type 0} → Table → List (Option (ControlConnection S)) → Table
-watching_places table [] = table
-watching_places table (place ∷ rest) = watching_places (watching_place table place) rest
+abbrev pub arming_places : {S : Type 0} → Table → List (Option (ControlConnection S)) → Table
+arming_places table [] = table
+arming_places table (place ∷ rest) = arming_places (arming_place table place) rest
 
 -- an accept of a control connection is due: its listener is ready by the table, and no pause is under way
 abbrev pub is_control_due : Table → ControlListener → Bool
@@ -119,10 +119,10 @@ may_accept_control table listener = is_control_due table listener && not (is_som
 
 -- The next poll is also to watch the listener, while a place is free: whether it may give a connection, and the end of a
 -- pause.
-abbrev pub watching_listener : Table → Bool → Option ControlListener → Table
-watching_listener table has_room None = table
-watching_listener table has_room (Some listener) =
-    if has_room then watching table (may_accept_control table listener) listener.resumes_at else table
+abbrev pub arming_listener : Table → Bool → Option ControlListener → Table
+arming_listener table has_room None = table
+arming_listener table has_room (Some listener) =
+    if has_room then arming table (may_accept_control table listener) listener.resumes_at else table
 
 -- the same, if there is a listener
 abbrev pub is_listener_due : Table → Option ControlListener → Bool
@@ -130,9 +130,9 @@ is_listener_due table None = false
 is_listener_due table (Some listener) = is_control_due table listener
 
 -- the next poll is also to watch the control socket: its listener, and each connection
-abbrev pub watching_control : {S : Type 0} → Table → Control S → Table
-watching_control table control =
-    watching_places (watching_listener table (has_free (places control.slots)) control.listener) (places control.slots)
+abbrev pub arming_control : {S : Type 0} → Table → Control S → Table
+arming_control table control =
+    arming_places (arming_listener table (has_free (places control.slots)) control.listener) (places control.slots)
 
 -- A round of the control socket, with the status of the run and the table at its beginning. Each connection advances, and
 -- then at most one is accepted. A stop is ordered from the round on in which a connection requests it, and stays so. Sessions are shown if a connection gathers a status.

@@ -4,18 +4,18 @@ use Rattle.std.specs.declared.time.Duration.{Duration}
 use Rattle.std.specs.declared.time.Instant.{Instant}
 use Rattle.daide_io.specs.Network.{NetworkCall}
 use Rattle.daide_io.specs.Streams.{StreamCall}
-use Rattle.daide_sockets.specs.Beside.{closings_watched}
+use Rattle.daide_sockets.specs.Beside.{closings_armed}
 use Rattle.daide_sockets.specs.Lingering.{ClosingList, LooksAround, in_pass}
-use Rattle.daide_sockets.specs.InTime.{watching_all}
-use Rattle.daide_sockets.specs.Table.{Table, IsPollTime, PollsOnce, unwatched}
+use Rattle.daide_sockets.specs.InTime.{arming_all}
+use Rattle.daide_sockets.specs.Table.{Table, IsPollTime, PollsOnce, disarmed}
 
 -- The network is polled once, for the time of a poll that may block and watches these alone, each with work or without it, and
 -- with its nearest deadline; and no place.
 pub record WaitsOnce {N C : Type 0} (transition : N → NetworkCall C → N → Type 0) (others : List (Bool × Option Instant))
     (old : N) (before : Table) (new : N) (after : Table) : Type 0 where
   pub time : Option Duration
-  pub lasts : IsPollTime true (watching_all (unwatched before) others) time
-  pub polls : PollsOnce transition time old (watching_all (unwatched before) others) new after
+  pub lasts : IsPollTime true (arming_all (disarmed before) others) time
+  pub polls : PollsOnce transition time old (arming_all (disarmed before) others) new after
 
 -- the network, its table, and the closing streams
 pub record Finish (N S : Type 0) : Type 0 where
@@ -32,7 +32,7 @@ module _ {N C S : Type 0} (transition : N → NetworkCall C → N → Type 0) (t
     pub clock : table.reading ≡ old.table.reading
     pub none : table.due ≡ None
     pub advances : LooksAround to_give taken calls old.table.reading (in_pass old.closing) new.closing
-    pub waits : WaitsOnce transition (closings_watched table new.closing.streams) old.network table new.network new.table
+    pub waits : WaitsOnce transition (closings_armed table new.closing.streams) old.network table new.network new.table
 
   -- this number of rounds
   abbrev pub FinishesFor : ℕ → Finish N S → Finish N S → Type 0

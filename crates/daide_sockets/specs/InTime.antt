@@ -4,7 +4,7 @@ use Rattle.std.specs.Duration.{as_nanos}
 use Rattle.std.specs.Time.{instant_nanos}
 use Rattle.std.specs.declared.time.Duration.{Duration}
 use Rattle.std.specs.declared.time.Instant.{Instant}
-use Rattle.daide_sockets.specs.Table.{Table, IsNoTime, IsPollTime, watching}
+use Rattle.daide_sockets.specs.Table.{Table, IsNoTime, IsPollTime, arming}
 
 -- a time of at most this many nanoseconds
 abbrev pub IsAtMost : Option Duration → ℕ → Type 0
@@ -20,12 +20,12 @@ pub record IsInTimeFor (reading : Option Instant) (time : Option Duration) (has_
   pub work : has_work ≡ true → IsNoTime time
 
 -- those that are watched, each with work or without it, and with its nearest deadline
-abbrev pub watching_all : Table → List (Bool × Option Instant) → Table
-watching_all table [] = table
-watching_all table (one ∷ others) = watching_all (watching table one.0 one.1) others
+abbrev pub arming_all : Table → List (Bool × Option Instant) → Table
+arming_all table [] = table
+arming_all table (one ∷ others) = arming_all (arming table one.0 one.1) others
 
 -- Each poll that may block is in time for each of those that it watches, and for the deadlines of the places.
 abbrev pub WaitsAreInTime : Type 0
-WaitsAreInTime = (table : Table) (watched : List (Bool × Option Instant)) (time : Option Duration) →
-    IsPollTime true (watching_all table watched) time →
-    All (λ one. IsInTimeFor table.reading time one.0 one.1) watched × IsInTimeFor table.reading time false table.due
+WaitsAreInTime = (table : Table) (armed : List (Bool × Option Instant)) (time : Option Duration) →
+    IsPollTime true (arming_all table armed) time →
+    All (λ one. IsInTimeFor table.reading time one.0 one.1) armed × IsInTimeFor table.reading time false table.due

@@ -12,20 +12,20 @@ one_if_same one other = if nat_eq one other then 1 else 0
 -- how often ports of the session with this number were delivered
 abbrev pub handed : {P S : Type 0} → (P → Paired S) → ℕ → List (SystemCall P) → ℕ
 handed pair n [] = 0
-handed pair n (Connects place (Ready ports) ∷ answers) = one_if_same (pair ports).number n + handed pair n answers
-handed pair n (Connects place Failed ∷ answers) = handed pair n answers
-handed pair n (Connects place Pending ∷ answers) = handed pair n answers
-handed pair n (Polls may_block woken orders ∷ answers) = handed pair n answers
-handed pair n (Shows ports status ∷ answers) = handed pair n answers
-handed pair n (Accepts place came ∷ answers) = handed pair n answers
-handed pair n (BeginsTurn place before after ∷ answers) = handed pair n answers
-handed pair n (Rests place ports rests ∷ answers) = handed pair n answers
-handed pair n (Retires place ports end ∷ answers) = handed pair n answers
-handed pair n (Notifies notice ∷ answers) = handed pair n answers
+handed pair n (Connects place (Ready ports) ∷ trace) = one_if_same (pair ports).number n + handed pair n trace
+handed pair n (Connects place Failed ∷ trace) = handed pair n trace
+handed pair n (Connects place Pending ∷ trace) = handed pair n trace
+handed pair n (Polls may_block woken orders ∷ trace) = handed pair n trace
+handed pair n (Shows ports status ∷ trace) = handed pair n trace
+handed pair n (Accepts place came ∷ trace) = handed pair n trace
+handed pair n (BeginsTurn place before after ∷ trace) = handed pair n trace
+handed pair n (Rests place ports rests ∷ trace) = handed pair n trace
+handed pair n (Retires place ports end ∷ trace) = handed pair n trace
+handed pair n (Notifies notice ∷ trace) = handed pair n trace
 
 -- Sockets of a run with no bot yet: by any trace of system calls, no session gets its ports twice.
 abbrev pub SessionsComeOnce : (P : Type 0) → {S : Type 0} → (S → Option (List ℕ)) → (S → Option (List ℕ)) →
     (S → Option (List StreamCall)) → Type 0
-SessionsComeOnce P {S} to_give taken calls = (pair : P → Paired S) (old new : RunSockets S) (answers : List (SystemCall P))
-    (n : ℕ) → old.came ≡ 0 → pending_connects old.arrivals ≡ 0 → TransitsBy (Transits to_give taken calls pair) old answers new →
-    handed pair n answers ≤ 1
+SessionsComeOnce P {S} to_give taken calls = (pair : P → Paired S) (old new : RunSockets S) (trace : List (SystemCall P))
+    (n : ℕ) → old.came ≡ 0 → pending_connects old.arrivals ≡ 0 → TransitsBy (Transits to_give taken calls pair) old trace new →
+    handed pair n trace ≤ 1

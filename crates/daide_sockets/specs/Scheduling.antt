@@ -11,7 +11,7 @@ use Rattle.daide_buffered_io.specs.Buffers.{Buffer}
 use Rattle.daide_sockets.specs.declared.admission.Acceptor.{Acceptor}
 use Rattle.daide_sockets.specs.declared.ports.SocketPorts.{SocketPorts}
 use Rattle.daide_sockets.specs.Accepting.{is_bot_due, may_connect, AcceptsThenConnects}
-use Rattle.daide_sockets.specs.Beside.{listener_watched, others_watched}
+use Rattle.daide_sockets.specs.Beside.{listener_armed, others_armed}
 use Rattle.daide_sockets.specs.Lingering.{ClosingList, LooksAround, in_pass}
 use Rattle.daide_sockets.specs.Pairing.{Arriving, Paired, RunSockets, is_vacant, arrival_at, ClosesAt, ClosesBothAt, Transits}
 use Rattle.daide_sockets.specs.KeptRows.{KeepsBeside}
@@ -90,7 +90,7 @@ SameSchedule old new = SameTimes old new × (new.acceptor ≡ old.acceptor)
 abbrev pub PollsForRun : {N C S : Type 0} → (N → NetworkCall C → N → Type 0) → Bool → List ℕ → RunState N S →
     RunState N S → Type 0
 PollsForRun transition may_block woken old new = PollsForPlaces transition
-    (others_watched old.table (listener_watched old.table old.acceptor) old.closing.streams) may_block woken
+    (others_armed old.table (listener_armed old.table old.acceptor) old.closing.streams) may_block woken
     old.network old.table new.network new.table
 
 -- What a system call schedules. The timeouts of the run never change, and each session begins with them. A poll watches the

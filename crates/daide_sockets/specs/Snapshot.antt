@@ -44,8 +44,8 @@ pub record IsSessionRow {S : Type 0} (reading : Option Instant) (session : ℕ) 
   pub account : row.account ≡ shown.account
   pub queued_to_bot : row.queued_to_bot ≡ shown.queued_to_bot
   pub queued_to_server : row.queued_to_server ≡ shown.queued_to_server
-  pub held_to_bot : row.held_to_bot ≡ length sockets.0.stream.write_buffer
-  pub held_to_server : row.held_to_server ≡ length sockets.1.stream.write_buffer
+  pub buffered_to_bot : row.buffered_to_bot ≡ length sockets.0.stream.write_buffer
+  pub buffered_to_server : row.buffered_to_server ≡ length sockets.1.stream.write_buffer
   pub received_from_bot : row.received_from_bot ≡ shown.bytes.from_bot
   pub received_from_server : row.received_from_server ≡ shown.bytes.from_server
   pub sent_to_bot : row.sent_to_bot ≡ shown.bytes.to_bot

@@ -22,8 +22,8 @@ pub record Table : Type 0 where
   pub reading : Option Instant
   pub deadlines : List (Option Instant)
   pub due : Option Instant
-  pub watched_work : Bool
-  pub watched_due : Option Instant
+  pub armed_work : Bool
+  pub armed_due : Option Instant
   pub rows : List Row
 
 -- ---- one row
@@ -147,8 +147,8 @@ new_table places closing = record {
   reading = None;
   deadlines = replicate places None;
   due = None;
-  watched_work = false;
-  watched_due = None;
+  armed_work = false;
+  armed_due = None;
   rows = replicate (2 * places + 6 + closing) free_row;
 }
 
@@ -174,13 +174,13 @@ without_reports table place = without_report (without_report table (key_of place
 -- ---- what is watched beside the places
 
 -- the next poll also watches something with work or without it, and with this nearest deadline
-abbrev pub watching : Table → Bool → Option Instant → Table
-watching table has_work due =
-    record table { watched_work = table.watched_work || has_work; watched_due = earlier table.watched_due due }
+abbrev pub arming : Table → Bool → Option Instant → Table
+arming table has_work due =
+    record table { armed_work = table.armed_work || has_work; armed_due = earlier table.armed_due due }
 
 -- nothing is watched
-abbrev pub unwatched : Table → Table
-unwatched table = record table { watched_work = false; watched_due = None }
+abbrev pub disarmed : Table → Table
+disarmed table = record table { armed_work = false; armed_due = None }
 
 -- ---- a poll
 
@@ -202,12 +202,12 @@ latest old (Some reading) = Some reading
 -- the network was polled once, for this time, and then its clock was read; all that it reported is in the rows
 pub record PollsOnce {N C : Type 0} (transition : N → NetworkCall C → N → Type 0) (timeout : Option Duration) (old : N)
     (before : Table) (new : N) (after : Table) : Type 0 where
-  pub news : List SocketEvent
+  pub socket_events : List SocketEvent
   pub polled : N
   pub reading : Option Instant
-  pub polls : transition old (Polls timeout news) polled
+  pub polls : transition old (Polls timeout socket_events) polled
   pub reads : transition polled (ReadsClock reading) new
-  pub table : after ≡ record before { reading = latest before.reading reading; rows = with_events before.rows news }
+  pub table : after ≡ record before { reading = latest before.reading reading; rows = with_events before.rows socket_events }
 
 -- the places of those events whose key is less than `first`
 abbrev pub event_places : ℕ → List SocketEvent → List ℕ
@@ -217,8 +217,8 @@ event_places first (event ∷ events) =
 
 -- The places that a poll wakes after it reported these events: each place of which it reported something, and each whose
 -- deadline is past. Any other place keeps its deadline.
-pub record WakesPlaces (news : List SocketEvent) (woken : List ℕ) (old new : Table) : Type 0 where
-  pub reported : (place : ℕ) → is_among place (event_places (2 * length old.deadlines) news) ≡ true →
+pub record WakesPlaces (socket_events : List SocketEvent) (woken : List ℕ) (old new : Table) : Type 0 where
+  pub reported : (place : ℕ) → is_among place (event_places (2 * length old.deadlines) socket_events) ≡ true →
       is_among place woken ≡ true
   pub asleep : (place : ℕ) → is_among place woken ≡ false →
       (deadline_at new place ≡ deadline_at old place) × (is_past old.reading (deadline_at old place) ≡ false)
@@ -242,9 +242,9 @@ IsNoTime (Some time) = as_nanos time ≡ 0
 
 abbrev pub IsPollTimeIf : Bool → Table → Option Duration → Type 0
 IsPollTimeIf false table time = IsNoTime time
-IsPollTimeIf true table time = IsUntil table.reading (earlier table.due table.watched_due) time
+IsPollTimeIf true table time = IsUntil table.reading (earlier table.due table.armed_due) time
 
 -- A poll that may block, and watches nothing with work, lasts at most until the nearest deadline, and for ever if there is
 -- none. Any other takes no time.
 abbrev pub IsPollTime : Bool → Table → Option Duration → Type 0
-IsPollTime may_block table time = IsPollTimeIf (may_block && not table.watched_work) table time
+IsPollTime may_block table time = IsPollTimeIf (may_block && not table.armed_work) table time

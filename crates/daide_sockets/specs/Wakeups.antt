@@ -25,7 +25,7 @@ use Rattle.daide_buffered_io.specs.Streams.{stream_of}
 use Rattle.daide_sockets.specs.declared.socket.Socket.{Socket}
 use Rattle.daide_sockets.specs.Sockets.{has_socket_work, next_deadline}
 use Rattle.daide_sockets.specs.Times.{is_past}
-use Rattle.daide_sockets.specs.InTime.{watching_all}
+use Rattle.daide_sockets.specs.InTime.{arming_all}
 use Rattle.daide_sockets.specs.Table.{Table, AreDeadlinesBounded, PollsOnce, IsPollTime, merged, report_at, is_reported_at}
 use Rattle.daide_sockets.specs.Table.{key_of, listener_key, deadline_at, resting, without_reports}
 
@@ -129,7 +129,7 @@ KeepsReports view Pending old place new = report_at new (key_of place Bot) ≡ r
 -- a call that polls
 abbrev pub is_poll : {C : Type 0} → NetworkCall C → Bool
 is_poll (ReadsClock reading) = false
-is_poll (Networks.Polls timeout news) = true
+is_poll (Networks.Polls timeout socket_events) = true
 is_poll (Listens key is_followed) = false
 is_poll (AcceptsConnection accepted) = false
 is_poll StopsListening = false
@@ -182,7 +182,7 @@ pub record PollsForPlaces {N C : Type 0} (transition : N → NetworkCall C → N
   pub time : Option Duration
   pub polled : N
   pub reported : Table
-  pub lasts : IsPollTime may_block (watching_all before others) time
+  pub lasts : IsPollTime may_block (arming_all before others) time
   pub polls : PollsOnce transition time old before polled reported
   pub goes_on : GoesUnpolled transition polled new
   pub reading : after.reading ≡ reported.reading

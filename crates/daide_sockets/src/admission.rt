@@ -12,11 +12,11 @@ ghost use Rattle.daide_io.specs.Network.{AsksConnect, StopsListening};
 ghost use Rattle.daide_settings.specs.Ranges.{host_of, may_come};
 ghost use Rattle.daide_sockets.specs.Accepting.{is_accept_made, is_bot_due, may_connect, accept_pause, ReportsAccept, AcceptsOnce, AcceptsOneBot, BringsBot};
 ghost use Rattle.daide_sockets.specs.Accepting.{AsksAtMostOnce, BringsNoBot, ConnectsFrom, TriesOn, GivesConnection, Pauses};
-ghost use Rattle.daide_sockets.specs.Beside.{listener_watched};
+ghost use Rattle.daide_sockets.specs.Beside.{listener_armed};
 ghost use Rattle.daide_sockets.specs.KeptRows.{ChangesRows};
 ghost use Rattle.daide_sockets.specs.Pairing.{ConnectsTo, StaysPending, IsFreshConnect, IsFresh, IsJoined, pending_connects};
 ghost use Rattle.daide_sockets.specs.Present.{HasRoomForOne, bot_from, hosts_of};
-ghost use Rattle.daide_sockets.specs.Table.{listener_key, merged, report_at, watching};
+ghost use Rattle.daide_sockets.specs.Table.{listener_key, merged, report_at, arming};
 ghost use Rattle.daide_sockets.specs.Timers.{BeginsAt, timers_of};
 ghost use Rattle.daide_sockets.specs.Times.{IsAfter, IsStallEnd, is_past};
 
@@ -108,12 +108,12 @@ impl Acceptor {
 
     /// Has the next poll watch the listener: it does not block if it is for bots too and an accept is due, and lasts at
     /// most until the end of the pause.
-    pub fn watch(&self, table: &mut SocketTable)
-        ensures { table.new ≡ watching table.old (listener_watched table.old self.now).0
-            (listener_watched table.old self.now).1 }
+    pub fn arm(&self, table: &mut SocketTable)
+        ensures { table.new ≡ arming table.old (listener_armed table.old self.now).0
+            (listener_armed table.old self.now).1 }
     {
         let is_due = self.awaits_bots && self.is_due(table);
-        table.watch(is_due, self.resumes_at);
+        table.arm(is_due, self.resumes_at);
     }
 
     /// Closes the listener: no bot is accepted any more, and no poll is for one.

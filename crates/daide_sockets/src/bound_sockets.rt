@@ -109,8 +109,8 @@ pub fn bind_sockets<'r, R: AllocGlobal + Clock + Net>(
     rt: &'r R,
     settings: &Settings,
 ) -> Result<BoundSockets<'r, R>, BindError>
-    ensures rows { IfOk result (λ ground. ground.table ≡ new_table settings.now.max_sessions MOST_CLOSING) }
-    ensures servers { IfOk result (λ ground. AreAddressesOf settings.now.server ground.servers.items) }
+    ensures rows { IfOk result (λ bound. bound.table ≡ new_table settings.now.max_sessions MOST_CLOSING) }
+    ensures servers { IfOk result (λ bound. AreAddressesOf settings.now.server bound.servers.items) }
     ensures cause { IfErr result (IsBindCause settings.now) }
 {
     let places = addresses_at(rt, Key::Listen, settings.listen.as_str())?;
@@ -139,11 +139,11 @@ pub fn bind_sockets<'r, R: AllocGlobal + Clock + Net>(
 pub fn sockets_on<'w, N: Network, E: Write + Drop>(
     alloc: Global,
     settings: &'w Settings,
-    ground: (N, &'w [SocketAddr], SocketTable, &'w Pool),
+    resources: (N, &'w [SocketAddr], SocketTable, &'w Pool),
     errors: E,
 ) -> Option<Sockets<'w, N, E>>
     ensures none_came { IfSome result (λ sockets. (sockets.acceptor.came ≡ 0) × (sockets.is_verbose ≡ false)) }
-    ensures none_held { IfSome result (λ sockets. (pending_connects sockets.arrivals.items ≡ 0)
+    ensures none_pending { IfSome result (λ sockets. (pending_connects sockets.arrivals.items ≡ 0)
         × (sockets.closings ≡ no_closing sockets.stall_time)) }
     ensures im_time { IfSome result (λ sockets. IsSeconds settings.now.im_seconds sockets.im_time) }
     ensures idle_time { IfSome result (λ sockets. IsIdleTime settings.now.idle_seconds sockets.idle_time) }
@@ -151,13 +151,13 @@ pub fn sockets_on<'w, N: Network, E: Write + Drop>(
         × (sockets.stall_seconds ≡ settings.now.stall_seconds)) }
     ensures connect_time { IfSome result (λ sockets. IsSeconds CONNECT_SECONDS sockets.connect_time) }
     ensures room { IfSome result (λ sockets. (length sockets.arrivals.items ≡ settings.now.max_sessions)
-        × (length sockets.poller.table.deadlines ≡ length ground.entry.2.deadlines)) }
-    ensures rows { AreRowsOf ground.entry.2 [] → IfSome result (λ sockets. AreRowsOf sockets.poller.table
+        × (length sockets.poller.table.deadlines ≡ length resources.entry.2.deadlines)) }
+    ensures rows { AreRowsOf resources.entry.2 [] → IfSome result (λ sockets. AreRowsOf sockets.poller.table
         (closing_keys sockets.closings.streams)) }
 {
     Sockets::new(
         alloc,
-        ground,
+        resources,
         settings,
         Duration::from_secs(CONNECT_SECONDS),
         errors,

@@ -7,8 +7,8 @@ ghost use Rattle.daide_sockets.specs.Accepting.{Pauses};
 ghost use Rattle.daide_sockets.specs.Snapshot.{seconds_between, or_zero};
 ghost use Rattle.daide_sockets.specs.Control.{gathers_at, stops_at, stops_now_at};
 ghost use Rattle.daide_sockets.specs.ControlSlots.{places, Each, at_some, IsControlRow, PlaceAdvances, PlacesAdvance, PlaceShows};
-ghost use Rattle.daide_sockets.specs.ControlSlots.{at_place, has_free, is_control_due, with_one, watching_place, watching_places, watching_listener};
-ghost use Rattle.daide_sockets.specs.ControlSlots.{MakesControlAccept, AcceptsOne, watching_control, BeginsRound};
+ghost use Rattle.daide_sockets.specs.ControlSlots.{at_place, has_free, is_control_due, with_one, arming_place, arming_places, arming_listener};
+ghost use Rattle.daide_sockets.specs.ControlSlots.{MakesControlAccept, AcceptsOne, arming_control, BeginsRound};
 ghost use Rattle.daide_sockets.specs.ControlSlots.{is_listener_due};
 ghost use Rattle.daide_sockets.specs.KeptRows.{ChangesRows};
 ghost use Rattle.daide_sockets.specs.Table.{Table, report_at};
@@ -85,11 +85,11 @@ fn show_at<S: Duplex + Drop>(place: &mut Option<ControlConnection<S>>, row: &Ses
 }
 
 /// Has the next poll watch the connection of a place.
-fn watch_place<S: Duplex + Drop>(place: &Option<ControlConnection<S>>, table: &mut SocketTable)
-    ensures { table.new ≡ watching_place table.old place.now }
+fn arm_place<S: Duplex + Drop>(place: &Option<ControlConnection<S>>, table: &mut SocketTable)
+    ensures { table.new ≡ arming_place table.old place.now }
 {
     if let Some(connection) = place {
-        table.watch(connection.has_work(), connection.due());
+        table.arm(connection.has_work(), connection.due());
     }
 }
 
@@ -153,13 +153,13 @@ impl<S: Duplex + Drop> Slots<S> {
     }
 
     /// Has the next poll watch each connection.
-    fn watch(&self, table: &mut SocketTable)
-        ensures { table.new ≡ watching_places table.old (places self.now) }
+    fn arm(&self, table: &mut SocketTable)
+        ensures { table.new ≡ arming_places table.old (places self.now) }
     {
-        watch_place(&self.first, table);
-        watch_place(&self.second, table);
-        watch_place(&self.third, table);
-        watch_place(&self.fourth, table);
+        arm_place(&self.first, table);
+        arm_place(&self.second, table);
+        arm_place(&self.third, table);
+        arm_place(&self.fourth, table);
     }
 
     /// Returns whether one gathers a status.
@@ -314,12 +314,12 @@ impl ControlListener {
     }
 
     /// Has the next poll watch the listener, if a place is free.
-    fn watch(&self, table: &mut SocketTable, has_room: bool)
-        ensures { table.new ≡ watching_listener table.old has_room (Some self.now) }
+    fn arm(&self, table: &mut SocketTable, has_room: bool)
+        ensures { table.new ≡ arming_listener table.old has_room (Some self.now) }
     {
         if has_room {
             let may_accept = self.is_due(table) && self.resumes_at.is_none();
-            table.watch(may_accept, self.resumes_at);
+            table.arm(may_accept, self.resumes_at);
         }
     }
 }
@@ -401,13 +401,13 @@ impl<S: Duplex + Drop> Control<S> {
     }
 
     /// Has the next poll watch each connection, and the listener if a place is free.
-    pub(crate) fn watch(&self, table: &mut SocketTable)
-        ensures { table.new ≡ watching_control table.old self.now }
+    pub(crate) fn arm(&self, table: &mut SocketTable)
+        ensures { table.new ≡ arming_control table.old self.now }
     {
         if let Some(listener) = &self.listener {
-            listener.watch(table, self.slots.has_room());
+            listener.arm(table, self.slots.has_room());
         }
-        self.slots.watch(table);
+        self.slots.arm(table);
     }
 
     /// Returns true only if a round has nothing to do for the control socket: there is no connection, no accept is due,
@@ -415,7 +415,7 @@ impl<S: Duplex + Drop> Control<S> {
     pub(crate) fn is_at_rest(&self, table: &SocketTable) -> bool
         ensures free { result ≡ true → places self.now.slots ≡ None ∷ None ∷ None ∷ None ∷ [] }
         ensures not_due { result ≡ true → is_listener_due table.now self.now.listener ≡ false }
-        ensures watched { result ≡ true → table.now ≡ watching_control table.now self.now }
+        ensures armed { result ≡ true → table.now ≡ arming_control table.now self.now }
     {
         let rests = match &self.listener {
             Some(listener) => listener.rests(table),

@@ -30,7 +30,7 @@ pub fn control_waits_are_in_time<S: Duplex + Drop>()
 {}
 
 /// A poll leaves out no socket that is not of a place. Each poll of a run watches the listener and each closing socket
-/// (`Schedules`, `others_watched`). If it may block, it takes no time if an accept is awaited and due, or if a closing socket may
+/// (`Schedules`, `others_armed`). If it may block, it takes no time if an accept is awaited and due, or if a closing socket may
 /// do something at once: it has buffered bytes and is writable, or its writing is over and it is readable. It ends by the end of
 /// the pause of accepts, and by the deadline of each closing socket: of its stall timeout, or of its release.
 pub fn waits_are_in_time_beside<S: Duplex + Drop>()

@@ -11,15 +11,15 @@ ghost use Rattle.daide_io.specs.Ports.{AppendsTo};
 ghost use Rattle.daide_io.specs.Streams.{IsSameStream, StreamCall, WritingEnded};
 ghost use Rattle.daide_buffered_io.specs.Buffers.{Passes, ReadsNothing, WritesNothing, with_stream};
 ghost use Rattle.daide_sockets.specs.Accepting.{FollowsAtMostOnce};
-ghost use Rattle.daide_sockets.specs.Beside.{may_close_on, closing_due, stage_due, closings_watched};
+ghost use Rattle.daide_sockets.specs.Beside.{may_close_on, closing_due, stage_due, closings_armed};
 ghost use Rattle.daide_sockets.specs.Finishing.{FinishesAll, WaitsOnce};
-ghost use Rattle.daide_sockets.specs.InTime.{watching_all};
+ghost use Rattle.daide_sockets.specs.InTime.{arming_all};
 ghost use Rattle.daide_sockets.specs.Lingering.{ClosingStream, ClosingList, IsClosingBound, begins_closing, no_closing, TriesWriting, WritesOut};
 ghost use Rattle.daide_sockets.specs.Lingering.{Discards, is_released, LingersOn, LeavesNow, with_report, LooksAtOne, LooksAlong};
 ghost use Rattle.daide_sockets.specs.Lingering.{in_pass, LooksAround, GoOnFor};
 ghost use Rattle.daide_sockets.specs.Pairing.{ClosesAt, ClosesBothAt, with_room};
 ghost use Rattle.daide_sockets.specs.Rows.{AreRowsOf, KeepsClosingRows, closing_keys};
-ghost use Rattle.daide_sockets.specs.Table.{IsFull, TakesRow, freed, report_at, watching, without_report, without_reports};
+ghost use Rattle.daide_sockets.specs.Table.{IsFull, TakesRow, freed, report_at, arming, without_report, without_reports};
 
 use crate::poller::Poller;
 use crate::ports::SocketPorts;
@@ -139,7 +139,7 @@ impl<'w, S: Duplex + Drop> LingeringClose<'w, S> {
         ensures bound { self.new.closes_at ≡ self.old.closes_at }
         ensures stalls { (self.new.stall_time ≡ self.old.stall_time) × (self.new.stalls_at ≡ self.old.stalls_at) }
         ensures known { (self.new.key ≡ self.old.key) × (self.new.known ≡ self.old.known) }
-        ensures told { self.old.stream.write_buffer ≡ [] → AppendsTo (S.calls self.old.stream.stream) (WritingEnded ∷ [])
+        ensures appended { self.old.stream.write_buffer ≡ [] → AppendsTo (S.calls self.old.stream.stream) (WritingEnded ∷ [])
             (S.calls self.new.stream.stream) }
     {
         if !self.socket.stream.is_written() {
@@ -168,17 +168,17 @@ impl<'w, S: Duplex + Drop> LingeringClose<'w, S> {
     /// `writes`: no buffered byte is dropped before its writing is over (`TriesWriting`). Each try writes all of them
     /// once. Only a failed write, or a stall timeout that is over by the reading, gives up.
     ///
-    /// `told`: writing is shut down once no byte is buffered.
+    /// `appended`: writing is shut down once no byte is buffered.
     ///
     /// Not said: that no frame of the session waits for the socket then. It is read from the callers: a run retires
     /// closed sessions alone, and nothing was written to a bot that could not be joined.
     fn end_writing(&mut self, now: Option<Instant>)
         ensures writes { WritesOut S.to_give S.taken S.calls now self.old self.new }
-        ensures told { self.new.stream.write_buffer ≡ [] → (before : Option (List StreamCall))
+        ensures appended { self.new.stream.write_buffer ≡ [] → (before : Option (List StreamCall))
             × AppendsTo before (WritingEnded ∷ []) (S.calls self.new.stream.stream) }
     {
         self.write_on(now);
-        if self.socket.stream.is_behind() {
+        if self.socket.stream.has_queued() {
             return;
         }
         self.released_at = after(now, Duration::from_secs(SECONDS));
@@ -220,7 +220,7 @@ impl<'w, S: Duplex + Drop> LingeringClose<'w, S> {
         if is_past(now, self.closes_at) {
             return false;
         }
-        if self.socket.stream.is_behind() {
+        if self.socket.stream.has_queued() {
             self.end_writing(now);
             return true;
         }
@@ -258,10 +258,10 @@ impl<'w, S: Duplex + Drop> LingeringClose<'w, S> {
         ensures { result ≡ may_close_on table.now self.now }
     {
         let readiness = merged(self.socket.readiness, table.report(self.socket.key));
-        if self.socket.stream.is_behind() {
+        if self.socket.stream.has_queued() {
             readiness.may_write
         } else {
-            readiness.may_read || self.socket.stream.is_ahead()
+            readiness.may_read || self.socket.stream.has_read_ahead()
         }
     }
 
@@ -270,7 +270,7 @@ impl<'w, S: Duplex + Drop> LingeringClose<'w, S> {
     fn stage_due(&self) -> Option<Instant>
         ensures { result ≡ stage_due self.now }
     {
-        if self.socket.stream.is_behind() {
+        if self.socket.stream.has_queued() {
             self.socket.stalls_at()
         } else {
             self.released_at
@@ -285,11 +285,11 @@ impl<'w, S: Duplex + Drop> LingeringClose<'w, S> {
     }
 
     /// Has the next wait watch it.
-    fn watch(&self, table: &mut SocketTable)
-        ensures { table.new ≡ watching table.old (may_close_on table.old self.now) (closing_due self.now) }
+    fn arm(&self, table: &mut SocketTable)
+        ensures { table.new ≡ arming table.old (may_close_on table.old self.now) (closing_due self.now) }
     {
         let has_work = self.is_ready(table);
-        table.watch(has_work, self.due());
+        table.arm(has_work, self.due());
     }
 }
 
@@ -385,11 +385,11 @@ impl<'w, S: Duplex + Drop> ClosingSockets<'w, S> {
     }
 
     /// Has the next wait watch each.
-    fn watch(&self, table: &mut SocketTable)
-        ensures { table.new ≡ watching_all table.old (closings_watched table.old self.now) }
+    fn arm(&self, table: &mut SocketTable)
+        ensures { table.new ≡ arming_all table.old (closings_armed table.old self.now) }
     {
         for closing in self.sockets.iter() {
-            closing.watch(table);
+            closing.arm(table);
         }
     }
 }
@@ -563,19 +563,19 @@ impl<'w, S: Duplex + Drop> Closings<'w, S> {
     /// Waits, and watches each socket: it only polls if one may make progress at once, and waits at most until the
     /// nearest deadline.
     pub fn rest<N: Network>(&self, poller: &mut Poller<N>)
-        ensures { WaitsOnce N.transition (closings_watched poller.old.table self.now.streams) poller.old.network
+        ensures { WaitsOnce N.transition (closings_armed poller.old.table self.now.streams) poller.old.network
             poller.old.table poller.new.network poller.new.table }
     {
-        poller.table.unwatch();
-        self.watch(&mut poller.table);
+        poller.table.disarm();
+        self.arm(&mut poller.table);
         poller.poll(true);
     }
 
     /// Has the next wait watch each socket.
-    pub fn watch(&self, table: &mut SocketTable)
-        ensures { table.new ≡ watching_all table.old (closings_watched table.old self.now.streams) }
+    pub fn arm(&self, table: &mut SocketTable)
+        ensures { table.new ≡ arming_all table.old (closings_armed table.old self.now.streams) }
     {
-        self.sockets.watch(table);
+        self.sockets.arm(table);
     }
 
     /// Returns whether there are none.

@@ -112,13 +112,13 @@ impl<R: Clock + Net> Network for OsNetwork<'_, R> {
         Instant::now(self.runtime).ok()
     }
 
-    fn poll(&mut self, timeout: Option<Duration>, news: &mut Vec<SocketEvent>) {
-        news.clear();
+    fn poll(&mut self, timeout: Option<Duration>, socket_events: &mut Vec<SocketEvent>) {
+        socket_events.clear();
         // A failed poll has no events.
         let _ = self.poll.poll(&mut self.events, timeout);
         for event in self.events.iter() {
             // The caller has room for as many as a poll reports.
-            let _ = news.push(socket_event(event));
+            let _ = socket_events.push(socket_event(event));
         }
     }
 

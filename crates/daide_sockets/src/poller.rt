@@ -23,7 +23,7 @@ pub struct Poller<N: Network> {
     pub network: N,
     /// The table.
     pub table: SocketTable,
-    news: Vec<SocketEvent>,
+    socket_events: Vec<SocketEvent>,
 }
 
 impl<N: Network> Poller<N> {
@@ -31,11 +31,11 @@ impl<N: Network> Poller<N> {
     pub fn new(alloc: Global, network: N, table: SocketTable) -> Result<Poller<N>, AllocError>
         ensures { IfOk result (λ poller. poller.table ≡ record table { reading = poller.table.reading }) }
     {
-        let news = Vec::with_capacity(alloc, EVENTS)?;
+        let socket_events = Vec::with_capacity(alloc, EVENTS)?;
         let mut poller = Poller {
             network,
             table,
-            news,
+            socket_events,
         };
         let now = poller.network.now();
         poller.table.note_now(now);
@@ -68,11 +68,11 @@ impl<N: Network> Poller<N> {
     pub fn poll(&mut self, may_block: bool)
         ensures { (time : Option Duration) × IsPollTime may_block self.old.table time
             × (polls : PollsOnce N.transition time self.old.network self.old.table self.new.network self.new.table)
-            × (polls.news ≡ self.new.news.items) }
+            × (polls.socket_events ≡ self.new.socket_events.items) }
     {
         let timeout = self.poll_time(may_block);
-        self.network.poll(timeout, &mut self.news);
-        self.table.note_news(self.news.as_slice());
+        self.network.poll(timeout, &mut self.socket_events);
+        self.table.note_events(self.socket_events.as_slice());
         let now = self.network.now();
         self.table.note_now(now);
     }
@@ -85,6 +85,6 @@ impl<N: Network> Poller<N> {
             × PollsPlaces N.transition time woken self.old.network self.old.table self.new.network self.new.table }
     {
         self.poll(may_block);
-        self.table.wake(self.news.as_slice(), ready);
+        self.table.wake(self.socket_events.as_slice(), ready);
     }
 }

@@ -104,9 +104,9 @@ fn pull_or_flush_peer<S: Duplex + Drop>(
     ensures ends { own.old.timed.is_stalled ≡ false → own.new.timed.ends_stalled ≡ own.old.timed.ends_stalled }
     ensures other_timed { other.new.timed ≡ other.old.timed }
     // the parts of an answer are written together
-    ensures gathering { other.old.is_gathering ≡ true → other.old.gave ≡ true → other.new ≡ other.old }
+    ensures gathering { other.old.is_gathering ≡ true → other.old.has_pulled ≡ true → other.new ≡ other.old }
     // what else is held for the other side is written
-    ensures written { result ≡ Pull.Idle → (other.old.is_gathering && other.old.gave) ≡ false →
+    ensures written { result ≡ Pull.Idle → (other.old.is_gathering && other.old.has_pulled) ≡ false →
         IsWriting other.old.stream →
         IsFlushed S.calls other.old.readiness other.old.stream other.new.readiness other.new.stream }
     // with room, nothing is left that may be read, but for a read that must be tried again
@@ -158,8 +158,8 @@ fn put_or_flush_peer<S: Duplex + Drop>(
     ensures other { Passes S.to_give S.taken other.old.stream [] [] other.new.stream }
     ensures unread { ReadsNothing S.to_give other.old.stream other.new.stream }
     ensures timed { (own.new.timed ≡ own.old.timed) × (other.new.timed ≡ other.old.timed) }
-    ensures gathering { other.old.is_gathering ≡ true → other.old.gave ≡ true → other.new ≡ other.old }
-    ensures written { result ≡ Put.Took 0 → (other.old.is_gathering && other.old.gave) ≡ false →
+    ensures gathering { other.old.is_gathering ≡ true → other.old.has_pulled ≡ true → other.new ≡ other.old }
+    ensures written { result ≡ Put.Took 0 → (other.old.is_gathering && other.old.has_pulled) ≡ false →
         IsWriting other.old.stream →
         IsFlushed S.calls other.old.readiness other.old.stream other.new.readiness other.new.stream }
     ensures offered { IsOffered S.calls bytes.now result own.old own.new }
@@ -321,13 +321,13 @@ impl<'w, S: Drop> SocketPorts<'w, S> {
     }
 
     /// Returns the number of bytes that are held for the bot, and for the server.
-    pub(crate) fn held(&self) -> (usize, usize)
+    pub(crate) fn queued(&self) -> (usize, usize)
         ensures bot { result.0 ≡ length self.now.bot.stream.write_buffer }
         ensures server { result.1 ≡ length self.now.server.stream.write_buffer }
     {
         (
-            self.bot.stream.behind_len(),
-            self.server.stream.behind_len(),
+            self.bot.stream.queued_len(),
+            self.server.stream.queued_len(),
         )
     }
 
@@ -524,9 +524,9 @@ fn clock_event(stops: bool, im_timer_expired: bool) -> ClockEvent
 }
 
 impl<S: Duplex + Drop> Ports for SocketPorts<'_, S> {
-    ghost transition = { λ old answer new. Transfers S.to_give S.taken (old.bot.stream, old.server.stream) answer
-        (new.bot.stream, new.server.stream) × Settles S.calls answer (old.bot, old.server) (new.bot, new.server)
-        × SetsTimers answer (timers_of old) (timers_of new) };
+    ghost transition = { λ old call new. Transfers S.to_give S.taken (old.bot.stream, old.server.stream) call
+        (new.bot.stream, new.server.stream) × Settles S.calls call (old.bot, old.server) (new.bot, new.server)
+        × SetsTimers call (timers_of old) (timers_of new) };
 
     fn pull(&mut self, side: Side, buffer: &mut [u8]) -> Pull
         ensures within { IsPullWithin result (length buffer.old) }
@@ -544,7 +544,7 @@ impl<S: Duplex + Drop> Ports for SocketPorts<'_, S> {
             (stream_of (self.old.bot, self.old.server) side).stream result
             (stream_of (self.new.bot, self.new.server) side).readiness (stream_of (self.new.bot, self.new.server) side).stream }
         ensures written { result ≡ Pull.Idle → ((stream_of (self.old.server, self.old.bot) side).is_gathering
-            && (stream_of (self.old.server, self.old.bot) side).gave) ≡ false →
+            && (stream_of (self.old.server, self.old.bot) side).has_pulled) ≡ false →
             IsWriting (stream_of (self.old.server, self.old.bot) side).stream →
             IsFlushed S.calls (stream_of (self.old.server, self.old.bot) side).readiness (stream_of (self.old.server, self.old.bot) side).stream
             (stream_of (self.new.server, self.new.bot) side).readiness (stream_of (self.new.server, self.new.bot) side).stream }
@@ -562,7 +562,7 @@ impl<S: Duplex + Drop> Ports for SocketPorts<'_, S> {
             × Settles S.calls (Offered side bytes.now result) (self.old.bot, self.old.server) (self.new.bot, self.new.server)
             × SetsTimers (Offered side bytes.now result) (timers_of self.old) (timers_of self.new) }
         ensures written { result ≡ Put.Took 0 → ((stream_of (self.old.server, self.old.bot) side).is_gathering
-            && (stream_of (self.old.server, self.old.bot) side).gave) ≡ false →
+            && (stream_of (self.old.server, self.old.bot) side).has_pulled) ≡ false →
             IsWriting (stream_of (self.old.server, self.old.bot) side).stream →
             IsFlushed S.calls (stream_of (self.old.server, self.old.bot) side).readiness (stream_of (self.old.server, self.old.bot) side).stream
             (stream_of (self.new.server, self.new.bot) side).readiness (stream_of (self.new.server, self.new.bot) side).stream }

@@ -60,7 +60,7 @@ pub struct Socket<'w, S: Drop> {
     /// Whether it accepted bytes since its turn began, so that more may follow.
     pub(crate) is_gathering: bool,
     /// Whether its last pull returned bytes, so that an answer to them may be put to it in parts.
-    pub(crate) gave: bool,
+    pub(crate) has_pulled: bool,
     /// Whether a read or a write since its turn began must be tried again, since it was interrupted each time.
     pub(crate) tries_again: bool,
     /// The number of the session whose connect created it; 0 if no connect of a run did.
@@ -133,7 +133,7 @@ impl<'w, S: Drop> Socket<'w, S> {
             heard_at: None,
             timed: Timed::NONE,
             is_gathering: false,
-            gave: false,
+            has_pulled: false,
             tries_again: false,
             made_for: 0,
         }
@@ -203,7 +203,7 @@ impl<'w, S: Drop> Socket<'w, S> {
     pub(crate) fn has_work(&self) -> bool
         ensures { result ≡ has_socket_work self.now.stream self.now.readiness self.now.tries_again }
     {
-        self.tries_again || self.stream.is_behind() && self.readiness.may_write
+        self.tries_again || self.stream.has_queued() && self.readiness.may_write
     }
 
     /// Returns the stream itself.
@@ -233,9 +233,9 @@ impl<S: Duplex + Drop> Socket<'_, S> {
 
     /// Records a put of `len` bytes at this reading of the clock, of which `count` were accepted, by how many bytes were
     /// held before it.
-    fn note_put(&mut self, now: Option<Instant>, held: usize, len: usize, count: usize)
+    fn note_put(&mut self, now: Option<Instant>, queued: usize, len: usize, count: usize)
         ensures waits { (count < len) ⊎ IsWriting self.new.stream → StallsNext self.old.stall_time now self.old.stalls_at
-            (nat_lt (length self.new.stream.write_buffer) (held + count)) self.new.stalls_at }
+            (nat_lt (length self.new.stream.write_buffer) (queued + count)) self.new.stalls_at }
         ensures ends { count ≡ len → IsWritingOver self.new.stream → self.new.stalls_at ≡ None }
         ensures kept { IsStallKept now self.old.stall_time self.old.stalls_at self.new.stalls_at }
         ensures gathers { 0 < count → self.new.is_gathering ≡ true }
@@ -245,8 +245,8 @@ impl<S: Duplex + Drop> Socket<'_, S> {
         if count > 0 {
             self.is_gathering = true;
         }
-        let took = took_some(held, count, self.stream.behind_len());
-        let is_waiting = count < len || self.stream.is_behind();
+        let took = took_some(queued, count, self.stream.queued_len());
+        let is_waiting = count < len || self.stream.has_queued();
         self.note_written(now, took, is_waiting);
     }
 
@@ -310,18 +310,18 @@ impl<S: Duplex + Drop> Socket<'_, S> {
         ensures stall_time { self.new.stall_time ≡ self.old.stall_time }
         ensures has_failed { self.new.stream.has_failed ≡ self.old.stream.has_failed }
         ensures gathering { self.new.is_gathering ≡ self.old.is_gathering }
-        ensures idle { result ≡ Pull.Idle → self.new.gave ≡ false }
+        ensures idle { result ≡ Pull.Idle → self.new.has_pulled ≡ false }
         ensures pulled { IsPulled (length buffer.old) result self.old self.new }
     {
-        self.gave = false;
+        self.has_pulled = false;
         // Most turns of an idle session end here.
-        if !self.readiness.may_read && !self.stream.is_ahead() {
+        if !self.readiness.may_read && !self.stream.has_read_ahead() {
             return Pull::Idle;
         }
         let pull = self.stream.pull(self.pool, &mut self.readiness, buffer);
-        self.gave = matches!(pull, Pull::Got(_));
+        self.has_pulled = matches!(pull, Pull::Got(_));
         if is_nothing(pull) && !buffer.is_empty() {
-            let is_left = self.readiness.may_read || self.stream.is_ahead();
+            let is_left = self.readiness.may_read || self.stream.has_read_ahead();
             self.tries_again = self.tries_again || is_left;
         }
         pull
@@ -341,11 +341,11 @@ impl<S: Duplex + Drop> Socket<'_, S> {
         ensures offered { IsOffered S.calls bytes.now result self.old self.new }
         ensures in_time { PutsInTime now bytes.now result self.old self.new }
     {
-        let held = self.stream.behind_len();
+        let queued = self.stream.queued_len();
         let put = self.stream.put(self.pool, &mut self.readiness, bytes);
         match put {
             Put::Took(count) => {
-                self.note_put(now, held, bytes.len(), count);
+                self.note_put(now, queued, bytes.len(), count);
                 if count == 0 && !bytes.is_empty() && self.readiness.may_write {
                     self.tries_again = true;
                 }
@@ -375,13 +375,13 @@ impl<S: Duplex + Drop> Socket<'_, S> {
         ensures stays { StaysUnread S.calls self.old self.new }
         ensures in_time { FlushesInTime now self.old self.new }
     {
-        if !self.stream.is_behind() {
+        if !self.stream.has_queued() {
             return;
         }
-        let held = self.stream.behind_len();
+        let queued = self.stream.queued_len();
         self.stream.flush(self.pool, &mut self.readiness);
-        let took = self.stream.behind_len() < held;
-        let is_waiting = self.stream.is_behind();
+        let took = self.stream.queued_len() < queued;
+        let is_waiting = self.stream.has_queued();
         self.note_written(now, took, is_waiting);
     }
 
@@ -392,13 +392,13 @@ impl<S: Duplex + Drop> Socket<'_, S> {
         ensures passes { Passes S.to_give S.taken self.old.stream [] [] self.new.stream }
         ensures unread { ReadsNothing S.to_give self.old.stream self.new.stream }
         ensures timed { self.new.timed ≡ self.old.timed }
-        ensures gathering { self.old.is_gathering ≡ true → self.old.gave ≡ true → self.new ≡ self.old }
+        ensures gathering { self.old.is_gathering ≡ true → self.old.has_pulled ≡ true → self.new ≡ self.old }
         ensures stays { StaysUnread S.calls self.old self.new }
-        ensures written { (self.old.is_gathering && self.old.gave) ≡ false → IsWriting self.old.stream →
+        ensures written { (self.old.is_gathering && self.old.has_pulled) ≡ false → IsWriting self.old.stream →
             IsFlushed S.calls self.old.readiness self.old.stream self.new.readiness self.new.stream }
         ensures in_time { FlushesInTime now self.old self.new }
     {
-        if self.is_gathering && self.gave {
+        if self.is_gathering && self.has_pulled {
             return;
         }
         self.flush_at(now);
@@ -438,7 +438,7 @@ impl TurnsHeld {
         if stream.is_written() {
             return TurnsHeld::NONE;
         }
-        let len = stream.behind_len();
+        let len = stream.queued_len();
         let turns = if len < self.len {
             0
         } else {
@@ -456,7 +456,7 @@ impl TurnsHeld {
 impl<S: Duplex + Drop> Socket<'_, S> {
     /// Writes buffered bytes whose turns are over.
     #[tactic(auto, using(daide_buffered_io::proofs::BufferLemmas::same_passes))]
-    fn flush_late(&mut self, now: Option<Instant>, held: TurnsHeld)
+    fn flush_late(&mut self, now: Option<Instant>, turns: TurnsHeld)
         ensures passes { Passes S.to_give S.taken self.old.stream [] [] self.new.stream }
         ensures unread { ReadsNothing S.to_give self.old.stream self.new.stream }
         ensures timed { self.new.timed ≡ self.old.timed }
@@ -465,7 +465,7 @@ impl<S: Duplex + Drop> Socket<'_, S> {
         ensures writes { OnlyPuts S.calls self.old.readiness self.old.stream.stream self.new.readiness self.new.stream.stream }
         ensures key { self.new.key ≡ self.old.key }
     {
-        if held.is_over() {
+        if turns.is_over() {
             self.flush_at(now);
         }
     }
@@ -474,7 +474,7 @@ impl<S: Duplex + Drop> Socket<'_, S> {
     /// over.
     #[tactic(auto, using(daide_buffered_io::proofs::BufferLemmas::flush_then, daide_buffered_io::proofs::BufferLemmas::unread_then))]
     #[inline(always)]
-    pub(crate) fn begin_turn(&mut self, now: Option<Instant>, held: TurnsHeld)
+    pub(crate) fn begin_turn(&mut self, now: Option<Instant>, turns: TurnsHeld)
         ensures passes { Passes S.to_give S.taken self.old.stream [] [] self.new.stream }
         ensures unread { ReadsNothing S.to_give self.old.stream self.new.stream }
         ensures silent { self.new.timed.is_silent ≡ self.old.timed.is_silent }
@@ -487,6 +487,6 @@ impl<S: Duplex + Drop> Socket<'_, S> {
         self.is_gathering = false;
         self.tries_again = false;
         self.give_up_stalled(now);
-        self.flush_late(now, held);
+        self.flush_late(now, turns);
     }
 }

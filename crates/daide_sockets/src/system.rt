@@ -12,11 +12,11 @@ ghost use Rattle.daide_buffered_io.specs.Streams.{Transfers};
 ghost use Rattle.daide_settings.specs.BotsInAll.{bots_in_all};
 ghost use Rattle.daide_settings.specs.Ranges.{host_of, may_come};
 ghost use Rattle.daide_sockets.specs.Accepting.{is_bot_due, BringsNoBot, IsUnreached};
-ghost use Rattle.daide_sockets.specs.Beside.{listener_watched, others_watched};
+ghost use Rattle.daide_sockets.specs.Beside.{listener_armed, others_armed};
 ghost use Rattle.daide_sockets.specs.Capacity.{capacity_after};
-ghost use Rattle.daide_sockets.specs.ControlSlots.{Each, PlaceShows, places, watching_control};
+ghost use Rattle.daide_sockets.specs.ControlSlots.{Each, PlaceShows, places, arming_control};
 ghost use Rattle.daide_sockets.specs.Finishing.{FinishesAll};
-ghost use Rattle.daide_sockets.specs.InTime.{watching_all};
+ghost use Rattle.daide_sockets.specs.InTime.{arming_all};
 ghost use Rattle.daide_sockets.specs.Lines.{milliseconds_between};
 ghost use Rattle.daide_sockets.specs.Lingering.{LooksAround, in_pass, GoOnFor, no_closing};
 ghost use Rattle.daide_sockets.specs.Pairing.{Arriving, ClosesBothAt, TakesOut, is_vacant, pending_connects};
@@ -25,7 +25,7 @@ ghost use Rattle.daide_sockets.specs.Rows.{AreRowsOf, KeepsClosingRows, closing_
 ghost use Rattle.daide_sockets.specs.Scheduling.{RunEvolves, run_state};
 ghost use Rattle.daide_sockets.specs.Snapshot.{IsSessionRow};
 ghost use Rattle.daide_sockets.specs.Sockets.{due_after};
-ghost use Rattle.daide_sockets.specs.Table.{Table, IsPollTime, unwatched};
+ghost use Rattle.daide_sockets.specs.Table.{Table, IsPollTime, disarmed};
 ghost use Rattle.daide_sockets.specs.Timers.{SetsTimers, timers_of};
 ghost use Rattle.daide_sockets.specs.Times.{IsSeconds, IsIdleTime, is_past};
 ghost use Rattle.daide_sockets.specs.Wakeups.{PollsPlaces, Settles};
@@ -96,7 +96,7 @@ fn idle_time_of(seconds: u32) -> Option<Duration>
 /// the settings (`new`: `idle_time`, `stall_time`). The ports of a connect begin with them, at the table's reading of
 /// the clock (`Schedules`). The place of a pending connect rests until the deadline of the connect.
 ///
-/// At the end of `poll` the control socket advances, and the next poll watches it (`take_orders`: `control`, `watched`). Once a
+/// At the end of `poll` the control socket advances, and the next poll watches it (`take_orders`: `control`, `armed`). Once a
 /// stop is requested, or all bots of the run came, the listener for bots is closed (`closes`, `all_came`). Once it is requested
 /// that sessions end now, each place is woken (`wake_stopped`), and a pending connect is given up (`look_at`). The next turn of a
 /// session stops it, and no later one (`begin_turn`: `stops`, `once`).
@@ -153,16 +153,16 @@ impl<'w, N: Network, E: Write + Drop> Sockets<'w, N, E> {
     /// logged.
     pub fn new(
         alloc: Global,
-        ground: (N, &'w [SocketAddr], SocketTable, &'w Pool),
+        resources: (N, &'w [SocketAddr], SocketTable, &'w Pool),
         settings: &'w Settings,
         connect_time: Duration,
         errors: E,
     ) -> Option<Sockets<'w, N, E>>
         ensures none_came { IfSome result (λ sockets. (sockets.acceptor.came ≡ 0) × (sockets.is_verbose ≡ false)) }
-        ensures none_held { IfSome result (λ sockets. (pending_connects sockets.arrivals.items ≡ 0)
+        ensures none_pending { IfSome result (λ sockets. (pending_connects sockets.arrivals.items ≡ 0)
             × (sockets.closings ≡ no_closing sockets.stall_time)) }
         ensures room { IfSome result (λ sockets. (length sockets.arrivals.items ≡ settings.now.max_sessions)
-            × (length sockets.poller.table.deadlines ≡ length ground.entry.2.deadlines)) }
+            × (length sockets.poller.table.deadlines ≡ length resources.entry.2.deadlines)) }
         ensures im_time { IfSome result (λ sockets. IsSeconds settings.now.im_seconds sockets.im_time) }
         ensures idle_time { IfSome result (λ sockets. IsIdleTime settings.now.idle_seconds sockets.idle_time) }
         ensures stall_time { IfSome result (λ sockets. IsIdleTime settings.now.stall_seconds sockets.stall_time
@@ -175,10 +175,10 @@ impl<'w, N: Network, E: Write + Drop> Sockets<'w, N, E> {
         ensures bots { IfSome result (λ sockets. (sockets.bots_in_all ≡ bots_in_all settings.now)
             × (sockets.acceptor.is_closed ≡ false)) }
         ensures none_present { IfSome result (λ sockets. sockets.present.bots.items ≡ []) }
-        ensures rows { AreRowsOf ground.entry.2 [] → IfSome result (λ sockets. AreRowsOf sockets.poller.table
+        ensures rows { AreRowsOf resources.entry.2 [] → IfSome result (λ sockets. AreRowsOf sockets.poller.table
             (closing_keys sockets.closings.streams)) }
     {
-        let (network, servers, table, pool) = ground;
+        let (network, servers, table, pool) = resources;
         let stall_time = idle_time_of(settings.stall_seconds);
         let RunLists {
             arrivals,
@@ -230,7 +230,7 @@ impl<'w, N: Network, E: Write + Drop> Sockets<'w, N, E> {
     }
 
     /// Logs a line of a session, if sessions are logged.
-    fn tell_of_session(&mut self, notice: SessionNotice)
+    fn log_session(&mut self, notice: SessionNotice)
         ensures { self.new ≡ record self.old { errors = self.new.errors } }
     {
         if self.is_verbose {
@@ -308,7 +308,7 @@ impl<'w, N: Network, E: Write + Drop> Sockets<'w, N, E> {
             address_in (bot_with ports.now.number self.now.present.bots.items) ≡ None }
     {
         let bot = self.present.address_of(ports.number())?;
-        let (held_to_bot, held_to_server) = ports.held();
+        let (buffered_to_bot, buffered_to_server) = ports.queued();
         let (bot_heard_at, server_heard_at) = ports.heard_at();
         let now = self.poller.table.now();
         Some(SessionRow {
@@ -320,8 +320,8 @@ impl<'w, N: Network, E: Write + Drop> Sockets<'w, N, E> {
             account: status.account,
             queued_to_bot: status.queued_to_bot,
             queued_to_server: status.queued_to_server,
-            held_to_bot,
-            held_to_server,
+            buffered_to_bot,
+            buffered_to_server,
             received_from_bot: status.bytes.from_bot,
             received_from_server: status.bytes.from_server,
             sent_to_bot: status.bytes.to_bot,
@@ -350,33 +350,33 @@ impl<'w, N: Network, E: Write + Drop> Sockets<'w, N, E> {
     }
 
     /// Has the next poll watch the listener and each closing socket, beside the control socket.
-    fn watch_others(&mut self)
-        ensures watched { self.new.poller.table ≡ watching_all self.old.poller.table (others_watched self.old.poller.table
-            (listener_watched self.old.poller.table self.old.acceptor) self.old.closings.streams) }
+    fn arm_others(&mut self)
+        ensures armed { self.new.poller.table ≡ arming_all self.old.poller.table (others_armed self.old.poller.table
+            (listener_armed self.old.poller.table self.old.acceptor) self.old.closings.streams) }
         ensures network { self.new.poller.network ≡ self.old.poller.network }
         ensures same { self.new ≡ record self.old { poller = self.new.poller } }
     {
-        self.acceptor.watch(&mut self.poller.table);
-        self.closings.watch(&mut self.poller.table);
+        self.acceptor.arm(&mut self.poller.table);
+        self.closings.arm(&mut self.poller.table);
     }
 
     /// Polls the network once, for a poll that may block or not, and wakes the places for which there is something to do.
     fn poll_places<A: Allocator>(&mut self, may_block: bool, ready: &mut ReadyQueue<A>)
         ensures polls { (woken : List ℕ) × (ready.new ≡ woken_all woken ready.old) × (time : Option Duration)
-            × IsPollTime may_block (watching_all self.old.poller.table (others_watched self.old.poller.table
-            (listener_watched self.old.poller.table self.old.acceptor) self.old.closings.streams)) time
-            × (watched : Table) × (watched ≡ record self.old.poller.table {
-              watched_work = watched.watched_work;
-              watched_due = watched.watched_due;
-            }) × (polled : Table) × PollsPlaces N.transition time woken self.old.poller.network watched
-            self.new.poller.network polled × (self.new.poller.table ≡ unwatched polled) }
+            × IsPollTime may_block (arming_all self.old.poller.table (others_armed self.old.poller.table
+            (listener_armed self.old.poller.table self.old.acceptor) self.old.closings.streams)) time
+            × (armed : Table) × (armed ≡ record self.old.poller.table {
+              armed_work = armed.armed_work;
+              armed_due = armed.armed_due;
+            }) × (polled : Table) × PollsPlaces N.transition time woken self.old.poller.network armed
+            self.new.poller.network polled × (self.new.poller.table ≡ disarmed polled) }
         ensures same { self.new ≡ record self.old { poller = self.new.poller } }
     {
         if may_block {
-            self.watch_others();
+            self.arm_others();
         }
         self.poller.poll_for(may_block, ready);
-        self.poller.table.unwatch();
+        self.poller.table.disarm();
     }
 
     /// Wakes each place once an operator stops all sessions, which was not so before.
@@ -395,10 +395,10 @@ impl<'w, N: Network, E: Write + Drop> Sockets<'w, N, E> {
 }
 
 impl<'w, N: Network, E: Write + Drop> System<SocketPorts<'w, N::Connection>> for Sockets<'w, N, E> {
-    ghost transition = { λ old answer new. RunEvolves N.transition N.Connection.to_give N.Connection.taken N.Connection.calls
+    ghost transition = { λ old call new. RunEvolves N.transition N.Connection.to_give N.Connection.taken N.Connection.calls
         (λ (ports : PortsOf N.Connection). ports)
         (run_state (old.poller.network, old.poller.table) (old.idle_time, old.stall_time) old.acceptor old.arrivals.items
-        old.closings) answer
+        old.closings) call
         (run_state (new.poller.network, new.poller.table) (new.idle_time, new.stall_time) new.acceptor new.arrivals.items
         new.closings) };
 
@@ -417,7 +417,7 @@ impl<'w, N: Network, E: Write + Drop> System<SocketPorts<'w, N::Connection>> for
         ensures orders { result.stops_accepting ≡ self.new.control.stops_accepting }
         ensures kept { self.old.control.stops_accepting ≡ true → self.new.control.stops_accepting ≡ true }
         ensures now_kept { self.old.control.stops_now ≡ true → self.new.control.stops_now ≡ true }
-        ensures watched { (before : Table) × (self.new.poller.table ≡ watching_control before self.new.control) }
+        ensures armed { (before : Table) × (self.new.poller.table ≡ arming_control before self.new.control) }
         ensures capacity { self.new.capacity ≡ capacity_after self.old.capacity
             (length self.old.present.bots.items) self.old.max_sessions (is_some self.old.acceptor.resumes_at)
             self.old.acceptor.came }
@@ -605,13 +605,13 @@ impl<'w, N: Network, E: Write + Drop> System<SocketPorts<'w, N::Connection>> for
         let session = (ports.number(), self.lasted(ports.number()));
         self.present.remove(ports.number());
         let notice = SessionNotice::of_end(session, end, ports.timed(), self.stall_seconds);
-        self.tell_of_session(notice);
+        self.log_session(notice);
         self.poller.table.forget(place);
         self.closings.begin_both(&mut self.poller, place, ports);
         self.poller.table.is_bounded();
     }
 
-    fn tell(&mut self, notice: Notice)
+    fn log(&mut self, notice: Notice)
         ensures transition { RunEvolves N.transition N.Connection.to_give N.Connection.taken N.Connection.calls
             (λ (ports : PortsOf N.Connection). ports)
             (run_state (self.old.poller.network, self.old.poller.table) (self.old.idle_time, self.old.stall_time) self.old.acceptor

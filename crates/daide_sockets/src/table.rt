@@ -12,8 +12,8 @@ ghost use Rattle.daide_io.specs.Deadline.{earlier};
 ghost use Rattle.daide_io.specs.ReadyQueue.{is_among, woken_all};
 ghost use Rattle.daide_sockets.specs.Table.{AreBounded, AreDeadlinesBounded, ForgetsPlaces, IsFull, IsUntil, TakesRow, WakesPlaces};
 ghost use Rattle.daide_sockets.specs.Table.{deadline_in, event_places, forgotten, free_row, freed, row_at};
-ghost use Rattle.daide_sockets.specs.Table.{has_report, is_reported_at, key_of, latest, merged, new_table, report_at, resting, unwatched};
-ghost use Rattle.daide_sockets.specs.Table.{watching, with_event, with_events, without_report, without_reports};
+ghost use Rattle.daide_sockets.specs.Table.{has_report, is_reported_at, key_of, latest, merged, new_table, report_at, resting, disarmed};
+ghost use Rattle.daide_sockets.specs.Table.{arming, with_event, with_events, without_report, without_reports};
 ghost use Rattle.daide_sockets.specs.Times.{IsAfter, IsStallEnd, StallsNext, is_past, is_time_over};
 
 use daide_buffered_io::readiness::Readiness;
@@ -56,9 +56,9 @@ pub struct SocketTable {
     /// No place at rest has an earlier deadline than this; `None` if none has one.
     due: Option<Instant>,
     /// Whether something may be done at once for one of those beside the places that the next poll is to watch.
-    watched_work: bool,
+    armed_work: bool,
     /// The nearest deadline of those; `None` if there is none.
-    watched_due: Option<Instant>,
+    armed_due: Option<Instant>,
     rows: Vec<Row>,
 }
 
@@ -72,8 +72,8 @@ impl Model for SocketTable {
       reading = t.reading;
       deadlines = t.deadlines.items;
       due = t.due;
-      watched_work = t.watched_work;
-      watched_due = t.watched_due;
+      armed_work = t.armed_work;
+      armed_due = t.armed_due;
       rows = t.rows.items;
     } };
 
@@ -290,8 +290,8 @@ impl SocketTable {
             places,
             deadlines: no_deadlines(alloc, places)?,
             due: None,
-            watched_work: false,
-            watched_due: None,
+            armed_work: false,
+            armed_due: None,
             rows: free_rows(alloc, count)?,
         })
     }
@@ -444,19 +444,19 @@ impl SocketTable {
     }
 
     /// Adds what a poll reported to the rows.
-    pub(crate) fn note_news(&mut self, news: &[SocketEvent])
-        ensures { self.new ≡ record self.old { rows = with_events self.old.rows news.now } }
+    pub(crate) fn note_events(&mut self, socket_events: &[SocketEvent])
+        ensures { self.new ≡ record self.old { rows = with_events self.old.rows socket_events.now } }
     {
-        for event in news {
+        for event in socket_events {
             self.note_event(*event);
         }
     }
 
     /// Wakes the places of which a poll reported these events.
-    fn wake_reported<A: Allocator>(&self, news: &[SocketEvent], ready: &mut ReadyQueue<A>)
-        ensures { ready.new ≡ woken_all (event_places (2 * length self.now.deadlines) news.now) ready.old }
+    fn wake_reported<A: Allocator>(&self, socket_events: &[SocketEvent], ready: &mut ReadyQueue<A>)
+        ensures { ready.new ≡ woken_all (event_places (2 * length self.now.deadlines) socket_events.now) ready.old }
     {
-        for event in news {
+        for event in socket_events {
             if event.key < self.listener_key() {
                 ready.wake(event.key / 2);
             }
@@ -464,11 +464,15 @@ impl SocketTable {
     }
 
     /// Wakes the places of which a poll reported these events, and those whose deadline is past.
-    pub(crate) fn wake<A: Allocator>(&mut self, news: &[SocketEvent], ready: &mut ReadyQueue<A>)
+    pub(crate) fn wake<A: Allocator>(
+        &mut self,
+        socket_events: &[SocketEvent],
+        ready: &mut ReadyQueue<A>,
+    )
         ensures { (woken : List ℕ) × (ready.new ≡ woken_all woken ready.old)
-            × WakesPlaces news.now woken self.old self.new }
+            × WakesPlaces socket_events.now woken self.old self.new }
     {
-        self.wake_reported(news, ready);
+        self.wake_reported(socket_events, ready);
         if is_past(self.reading, self.due) {
             self.due = wake_late(self.reading, &mut self.deadlines, ready);
         }
@@ -517,40 +521,40 @@ impl SocketTable {
 
     /// Has the next poll watch something else: whether something may be done at once for it, and its nearest deadline.
     #[inline(always)]
-    pub(crate) fn watch(&mut self, has_work: bool, due: Option<Instant>)
-        ensures { self.new ≡ watching self.old has_work due }
+    pub(crate) fn arm(&mut self, has_work: bool, due: Option<Instant>)
+        ensures { self.new ≡ arming self.old has_work due }
     {
-        self.watched_work = self.watched_work || has_work;
-        self.watched_due = earlier(self.watched_due, due);
+        self.armed_work = self.armed_work || has_work;
+        self.armed_due = earlier(self.armed_due, due);
     }
 
     /// Returns what the next poll watches beside the places: whether something may be done at once, and the nearest deadline.
-    pub fn watched(&self) -> (bool, Option<Instant>)
-        ensures { result ≡ (self.now.watched_work, self.now.watched_due) }
+    pub fn armed(&self) -> (bool, Option<Instant>)
+        ensures { result ≡ (self.now.armed_work, self.now.armed_due) }
     {
-        (self.watched_work, self.watched_due)
+        (self.armed_work, self.armed_due)
     }
 
     /// Forgets what was watched.
-    pub fn unwatch(&mut self)
-        ensures { self.new ≡ unwatched self.old }
+    pub fn disarm(&mut self)
+        ensures { self.new ≡ disarmed self.old }
     {
-        self.watched_work = false;
-        self.watched_due = None;
+        self.armed_work = false;
+        self.armed_due = None;
     }
 
     /// Returns whether a poll must not block, since something that it watches has work.
     pub(crate) fn has_work(&self) -> bool
-        ensures { result ≡ self.now.watched_work }
+        ensures { result ≡ self.now.armed_work }
     {
-        self.watched_work
+        self.armed_work
     }
 
     /// Returns the time from the last reading of the clock until the nearest deadline; `None` without one.
     pub(crate) fn until_next(&self) -> Option<Duration>
-        ensures { IsUntil self.now.reading (earlier self.now.due self.now.watched_due) result }
+        ensures { IsUntil self.now.reading (earlier self.now.due self.now.armed_due) result }
     {
-        match (self.reading, earlier(self.due, self.watched_due)) {
+        match (self.reading, earlier(self.due, self.armed_due)) {
             (Some(now), Some(moment)) => Some(moment.saturating_duration_since(now)),
             _ => None,
         }

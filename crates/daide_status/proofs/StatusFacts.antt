@@ -47,8 +47,8 @@ first = record {
   };
   queued_to_bot = 10;
   queued_to_server = 12;
-  held_to_bot = 30;
-  held_to_server = 4;
+  buffered_to_bot = 30;
+  buffered_to_server = 4;
   received_from_bot = 1234;
   received_from_server = 567890;
   sent_to_bot = 98765;
@@ -73,8 +73,8 @@ second = record {
   };
   queued_to_bot = 0;
   queued_to_server = 0;
-  held_to_bot = 0;
-  held_to_server = 8;
+  buffered_to_bot = 0;
+  buffered_to_server = 8;
   received_from_bot = 8;
   received_from_server = 0;
   sent_to_bot = 0;

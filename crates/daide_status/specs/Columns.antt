@@ -77,8 +77,8 @@ abbrev pub number_cells : SessionRow → List ℕ
 number_cells row =
     cell 6 (decimal row.number) ++ codes "  " ++ phase_cell row.phase row.level
     ++ side_cells row.account.bot ++ side_cells row.account.server
-    ++ cell 7 (decimal (row.queued_to_bot + row.held_to_bot))
-    ++ cell 9 (decimal (row.queued_to_server + row.held_to_server))
+    ++ cell 7 (decimal (row.queued_to_bot + row.buffered_to_bot))
+    ++ cell 9 (decimal (row.queued_to_server + row.buffered_to_server))
     ++ byte_cells row ++ number_or_dash 9 row.bot_idle ++ number_or_dash 11 row.server_idle
     ++ number_or_dash 6 row.port_to_server
 

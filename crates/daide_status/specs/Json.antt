@@ -74,7 +74,7 @@ json_counts a =
 abbrev pub json_waiting : SessionRow → List ℕ
 json_waiting row =
     json_sides (codes "queued") row.queued_to_bot row.queued_to_server
-    ++ json_sides (codes "held") row.held_to_bot row.held_to_server
+    ++ json_sides (codes "held") row.buffered_to_bot row.buffered_to_server
 
 -- the bytes received from each side, and those sent to each
 abbrev pub json_bytes : SessionRow → List ℕ

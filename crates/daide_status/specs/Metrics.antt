@@ -86,8 +86,8 @@ byte_samples row =
 -- the bytes that wait for each side, in the session and in the side's socket
 abbrev pub waiting_samples : SessionRow → List ℕ
 waiting_samples row =
-    session_sample (codes "session_waiting_bytes") row (codes "side=\"bot\"") (row.queued_to_bot + row.held_to_bot)
-    ++ session_sample (codes "session_waiting_bytes") row (codes "side=\"server\"") (row.queued_to_server + row.held_to_server)
+    session_sample (codes "session_waiting_bytes") row (codes "side=\"bot\"") (row.queued_to_bot + row.buffered_to_bot)
+    ++ session_sample (codes "session_waiting_bytes") row (codes "side=\"server\"") (row.queued_to_server + row.buffered_to_server)
 
 -- the seconds since a side's last byte, if it has sent one
 abbrev pub idle_sample : SessionRow → List ℕ → Option ℕ → List ℕ

@@ -151,8 +151,8 @@ fn put_waiting_sides(row: &SessionRow, out: &mut Vec<u8>) -> io::Result<()>
     )?;
     put_sides(
         "held",
-        row.held_to_bot as u128,
-        row.held_to_server as u128,
+        row.buffered_to_bot as u128,
+        row.buffered_to_server as u128,
         out,
     )
 }

@@ -219,8 +219,8 @@ pub(crate) fn put_bytes(row: &SessionRow, out: &mut Vec<u8>) -> io::Result<()>
 pub(crate) fn put_waiting(row: &SessionRow, out: &mut Vec<u8>) -> io::Result<()>
     ensures { OnOk result (out.new.items ≡ out.old.items ++ waiting_samples row.now) }
 {
-    let to_bot = sum(row.queued_to_bot, row.held_to_bot);
-    let to_server = sum(row.queued_to_server, row.held_to_server);
+    let to_bot = sum(row.queued_to_bot, row.buffered_to_bot);
+    let to_server = sum(row.queued_to_server, row.buffered_to_server);
     put_sample("session_waiting_bytes", row, "side=\"bot\"", to_bot, out)?;
     put_sample(
         "session_waiting_bytes",

@@ -43,9 +43,9 @@ pub struct SessionRow {
     /// The bytes that the session has queued for the server.
     pub queued_to_server: usize,
     /// The bytes that the bot's socket holds and has still to write.
-    pub held_to_bot: usize,
+    pub buffered_to_bot: usize,
     /// The bytes that the server's socket holds and has still to write.
-    pub held_to_server: usize,
+    pub buffered_to_server: usize,
     /// The bytes received from the bot, and from the server, each modulo 2^64.
     pub received_from_bot: u64,
     pub received_from_server: u64,

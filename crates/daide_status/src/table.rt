@@ -125,8 +125,8 @@ fn put_number_cells(row: &SessionRow, out: &mut Vec<u8>) -> io::Result<()>
     out.write_all(phase_cell(row.phase, row.level).as_bytes())?;
     put_side(&row.account.bot, out)?;
     put_side(&row.account.server, out)?;
-    put_cell(7, sum(row.queued_to_bot, row.held_to_bot), out)?;
-    put_cell(9, sum(row.queued_to_server, row.held_to_server), out)?;
+    put_cell(7, sum(row.queued_to_bot, row.buffered_to_bot), out)?;
+    put_cell(9, sum(row.queued_to_server, row.buffered_to_server), out)?;
     put_byte_cells(row, out)?;
     put_or_dash(9, row.bot_idle, out)?;
     put_or_dash(11, row.server_idle, out)?;

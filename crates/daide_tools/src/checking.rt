@@ -3,7 +3,7 @@
 ghost use Rattle.std.specs.Prelude.{◌≡◌, ◌≤◌, IfOk};
 ghost use Rattle.daide_tools.specs.Endings.{check_status, explained_status, CheckRuns, ReportEnds};
 
-use crate::faults::{CLEAN, FAULT, NOT_RELAYED, tell};
+use crate::faults::{CLEAN, FAULT, NOT_RELAYED, print_fault};
 use crate::several::check_several;
 use daide_command_line::arguments::CheckOrder;
 use daide_log::{Explained, LineReason, LogFault, check_stream, explain_stream};
@@ -16,7 +16,7 @@ use std::{fs, io};
 
 /// Reports what is wrong with a line that is not a log line, after the name of its log, if any. A failure to write it has
 /// no effect.
-pub(crate) fn tell_reason<N: Display + Drop, E: Write>(
+pub(crate) fn print_reason<N: Display + Drop, E: Write>(
     fault: LogFault,
     refused: Option<LineReason>,
     name: N,
@@ -28,15 +28,15 @@ pub(crate) fn tell_reason<N: Display + Drop, E: Write>(
 }
 
 /// Reports a fault of a log on standard error, and what is wrong with a line that is not a log line. Returns the status.
-fn tell_fault<E: Write>(
+fn print_log_fault<E: Write>(
     fault: LogFault,
     refused: Option<LineReason>,
     errors: &mut E,
 ) -> io::Result<u8>
     ensures { IfOk result (λ status. status ≡ 1) }
 {
-    let status = tell(errors, fault, FAULT)?;
-    tell_reason(fault, refused, "", errors);
+    let status = print_fault(errors, fault, FAULT)?;
+    print_reason(fault, refused, "", errors);
     Ok(status)
 }
 
@@ -51,7 +51,7 @@ fn end_check<E: Write>(
     match answer {
         Ok(counts) if counts.is_clean() => Ok(CLEAN),
         Ok(_counts) => Ok(NOT_RELAYED),
-        Err(fault) => tell_fault(fault, refused, errors),
+        Err(fault) => print_log_fault(fault, refused, errors),
     }
 }
 
@@ -66,7 +66,7 @@ fn end_explained<E: Write>(
     match answer {
         Ok(report) if report.counts.is_clean() && report.unfinished == 0 => Ok(CLEAN),
         Ok(_report) => Ok(NOT_RELAYED),
-        Err(fault) => tell_fault(fault, refused, errors),
+        Err(fault) => print_log_fault(fault, refused, errors),
     }
 }
 
@@ -117,6 +117,6 @@ pub fn run_check<R: AllocGlobal + Files, I: Read, O: Write, E: Write>(
     }
     match fs::open(rt, path) {
         Ok(mut file) => check_read(rt.alloc(), is_explained, &mut file, output, errors),
-        Err(_) => tell(errors, LogFault::Read, FAULT),
+        Err(_) => print_fault(errors, LogFault::Read, FAULT),
     }
 }

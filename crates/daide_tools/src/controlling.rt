@@ -8,7 +8,7 @@ ghost use Rattle.std.specs.Io.KnownBytes.{Appends};
 ghost use Rattle.daide_status.specs.Requests.{request_text};
 ghost use Rattle.daide_tools.specs.Controlling.{IsAnswerPrinted, request_line, stop_request, longest_answer};
 
-use crate::faults::{CLEAN, FAULT, tell};
+use crate::faults::{CLEAN, FAULT, print_fault};
 use crate::settings_file::{SettingsFileFault, settings_at};
 use daide_command_line::arguments::{StatusOrder, StopOrder};
 use daide_settings::ControlPath;
@@ -192,7 +192,7 @@ fn stop_request(is_now: bool) -> ControlRequest
 fn end_refused<E: Write>(fault: RequestFault, path: &ControlPath, errors: &mut E) -> io::Result<u8>
     ensures { IfOk result (λ status. status ≡ FAULT) }
 {
-    tell(errors, format_args!("{}: {fault}", path.as_str()), FAULT)
+    print_fault(errors, format_args!("{}: {fault}", path.as_str()), FAULT)
 }
 
 /// Reports that settings have no control socket, or why there are none.
@@ -203,8 +203,8 @@ fn end_without_path<E: Write>(
     ensures { IfOk result (λ status. status ≡ FAULT) }
 {
     match fault {
-        Some(fault) => tell(errors, fault, FAULT),
-        None => tell(errors, "settings have no control", FAULT),
+        Some(fault) => print_fault(errors, fault, FAULT),
+        None => print_fault(errors, "settings have no control", FAULT),
     }
 }
 

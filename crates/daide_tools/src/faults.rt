@@ -20,8 +20,12 @@ pub const USAGE: u8 = 2;
 pub const NOT_RELAYED: u8 = 3;
 
 /// Reports a fault in one line on standard error. Returns the given status.
-pub fn tell<E: Write>(errors: &mut E, fault: impl Display + Drop, status: u8) -> io::Result<u8>
-    ensures { IfOk result (λ told. told ≡ status) }
+pub fn print_fault<E: Write>(
+    errors: &mut E,
+    fault: impl Display + Drop,
+    status: u8,
+) -> io::Result<u8>
+    ensures { IfOk result (λ printed. printed ≡ status) }
 {
     writeln!(errors, "daide-gate: {fault}")?;
     Ok(status)

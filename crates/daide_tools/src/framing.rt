@@ -6,7 +6,7 @@ ghost use Rattle.daide_words.specs.Word.{names_of};
 ghost use Rattle.daide_words.specs.Words.{words_of};
 ghost use Rattle.daide_tools.specs.Endings.{frame_status, FrameEnds, FrameRuns};
 
-use crate::faults::{CLEAN, FAULT, tell};
+use crate::faults::{CLEAN, FAULT, print_fault};
 use crate::settings_file::words_at;
 use crate::typed::joined;
 use daide_command_line::arguments::FrameOrder;
@@ -25,7 +25,7 @@ fn end_frame<E: Write>(answer: Result<(), TextFault>, errors: &mut E) -> io::Res
     let Err(fault) = answer else {
         return Ok(CLEAN);
     };
-    let status = tell(errors, fault, FAULT)?;
+    let status = print_fault(errors, fault, FAULT)?;
     if let TextFault::NotMessage(_, _, reason) = fault {
         let _ = writeln!(errors, "daide-gate: {reason}");
     }
@@ -60,7 +60,7 @@ fn frame_words<A: Allocator + Copy, O: Write, E: Write>(
         (O.contents output.old) (O.contents output.new)) }
 {
     let Ok(text) = line_of(alloc, typed) else {
-        return tell(errors, TextFault::Memory, FAULT);
+        return print_fault(errors, TextFault::Memory, FAULT);
     };
     let mut input = text.as_slice();
     frame_read(alloc, words, &mut input, output, errors)
@@ -89,7 +89,7 @@ pub fn run_frame<R: AllocGlobal + Files, I: Read, O: Write, E: Write>(
 {
     let words = match words_at(rt, order.words) {
         Ok(words) => words,
-        Err(fault) => return tell(errors, fault, FAULT),
+        Err(fault) => return print_fault(errors, fault, FAULT),
     };
     match order.typed {
         Some(typed) => frame_words(rt.alloc(), &words, typed, output, errors),

@@ -6,7 +6,7 @@ ghost use Rattle.daide_driver.specs.Hub.{session_bound};
 ghost use Rattle.daide_event_loop.specs.Served.{run_limits};
 ghost use Rattle.daide_tools.specs.Endings.{IsJudgement, IsSettingsStatus, SettingsEnds, SettingsRuns};
 
-use crate::faults::{CLEAN, FAULT, tell};
+use crate::faults::{CLEAN, FAULT, print_fault};
 use crate::settings_file::{SettingsFileFault, read_text};
 use crate::trying::try_settings;
 use daide_command_line::arguments::SettingsOrder;
@@ -149,7 +149,7 @@ fn end_judged<R: AllocGlobal + Files + Clock + Net, O: Write, E: Write>(
         Ok(Some(settings)) if is_tried => try_settings(rt, &settings, output, errors),
         Ok(Some(_settings)) => Ok(CLEAN),
         Ok(None) => Ok(FAULT),
-        Err(fault) => tell(errors, fault, FAULT),
+        Err(fault) => print_fault(errors, fault, FAULT),
     }
 }
 
@@ -185,7 +185,7 @@ pub fn run_settings<R: AllocGlobal + Files + Clock + Net, I: Read, O: Write, E: 
     }
     match fs::open(rt, order.path) {
         Ok(mut file) => judge_read(rt, order, &mut file, output, errors),
-        Err(error) => tell(
+        Err(error) => print_fault(
             errors,
             SettingsFileFault::Unreadable(order.path, error.kind()),
             FAULT,

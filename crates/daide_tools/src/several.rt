@@ -2,8 +2,8 @@
 
 ghost use Rattle.std.specs.Prelude.{◌≡◌, ◌≤◌, IfOk};
 
-use crate::checking::tell_reason;
-use crate::faults::{CLEAN, FAULT, NOT_RELAYED, tell};
+use crate::checking::print_reason;
+use crate::faults::{CLEAN, FAULT, NOT_RELAYED, print_fault};
 use daide_log::{LineReason, LogFault, check_observed, explain_observed};
 use daide_transcript::{Sessions, write_table};
 use std::alloc::{Allocator, Global};
@@ -31,14 +31,14 @@ impl RefusedLog {
 }
 
 /// Reports the fault of one of several logs, after its name, and what is wrong with a line that is not a log line.
-pub(crate) fn tell_refused<E: Write>(
+pub(crate) fn print_refused_log<E: Write>(
     path: &str,
     refused: RefusedLog,
     errors: &mut E,
 ) -> io::Result<()> {
     let RefusedLog { fault, reason } = refused;
-    tell(errors, format_args!("{path}: {fault}"), FAULT)?;
-    tell_reason(fault, reason, format_args!("{path}: "), errors);
+    print_fault(errors, format_args!("{path}: {fault}"), FAULT)?;
+    print_reason(fault, reason, format_args!("{path}: "), errors);
     Ok(())
 }
 
@@ -130,9 +130,9 @@ fn end_with_table<O: Write, E: Write>(
     match write_table(alloc, sessions, output) {
         Ok(()) => Ok(status),
         Err(error) if error.kind() == ErrorKind::OutOfMemory => {
-            tell(errors, LogFault::Memory, FAULT)
+            print_fault(errors, LogFault::Memory, FAULT)
         }
-        Err(_) => tell(errors, LogFault::Write, FAULT),
+        Err(_) => print_fault(errors, LogFault::Write, FAULT),
     }
 }
 
@@ -155,9 +155,9 @@ pub(crate) fn check_several<R: AllocGlobal + Files, I: Read, O: Write, E: Write>
             Ok(one) => are_clean &= one,
             Err(refused) => {
                 if matches!(refused.fault, LogFault::Write) {
-                    return tell(errors, LogFault::Write, FAULT);
+                    return print_fault(errors, LogFault::Write, FAULT);
                 }
-                tell_refused(path, refused, errors)?;
+                print_refused_log(path, refused, errors)?;
                 has_fault = true;
             }
         }

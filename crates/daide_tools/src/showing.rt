@@ -5,7 +5,7 @@ ghost use Rattle.std.specs.List.{join_with_byte};
 ghost use Rattle.daide_show.specs.Shown.{request_of};
 ghost use Rattle.daide_tools.specs.Endings.{show_status, ShowEnds, ShowRuns};
 
-use crate::faults::{CLEAN, FAULT, NOT_RELAYED, tell};
+use crate::faults::{CLEAN, FAULT, NOT_RELAYED, print_fault};
 use crate::settings_file::words_at;
 use crate::typed::joined;
 use daide_command_line::arguments::ShowOrder;
@@ -59,7 +59,7 @@ fn end_show<A: Allocator + Copy, E: Write>(
     let status = match answer {
         Ok(true) => return Ok(CLEAN),
         Ok(false) => NOT_RELAYED,
-        Err(fault) => tell(errors, fault, FAULT)?,
+        Err(fault) => print_fault(errors, fault, FAULT)?,
     };
     if is_of_input(answer) {
         if is_explained {
@@ -86,7 +86,7 @@ fn show_read<A: Allocator + Copy, I: Read, O: Write, E: Write>(
 {
     let text = match read_input(alloc, input) {
         Ok(text) => text,
-        Err(fault) => return tell(errors, fault, FAULT),
+        Err(fault) => return print_fault(errors, fault, FAULT),
     };
     let answer = show_input(alloc, request, text.as_slice(), output);
     end_show(alloc, answer, request.is_explained, text.as_slice(), errors)
@@ -104,7 +104,7 @@ fn show_words<A: Allocator + Copy, O: Write, E: Write>(
         (O.contents output.old) (O.contents output.new)) }
 {
     let Ok(text) = joined(alloc, words) else {
-        return tell(errors, ShowFault::Memory, FAULT);
+        return print_fault(errors, ShowFault::Memory, FAULT);
     };
     let mut input = text.as_slice();
     let status = show_read(alloc, request, &mut input, output, errors)?;
@@ -129,7 +129,7 @@ pub fn run_show<R: AllocGlobal + Files, I: Read, O: Write, E: Write>(
 {
     let words = match words_at(rt, order.words) {
         Ok(words) => words,
-        Err(fault) => return tell(errors, fault, FAULT),
+        Err(fault) => return print_fault(errors, fault, FAULT),
     };
     let request = Request {
         side: order.side,

@@ -2,8 +2,8 @@
 
 ghost use Rattle.std.specs.Prelude.{◌≡◌, ◌≤◌, IfOk};
 
-use crate::faults::{CLEAN, FAULT, tell};
-use crate::several::{RefusedLog, tell_refused};
+use crate::faults::{CLEAN, FAULT, print_fault};
+use crate::several::{RefusedLog, print_refused_log};
 use daide_command_line::arguments::TranscriptOrder;
 use daide_log::{LogFault, explain_observed};
 use daide_transcript::{MessageFormat, Transcript};
@@ -62,15 +62,15 @@ pub fn run_transcript<R: AllocGlobal + Files, I: Read, O: Write, E: Write>(
     let mut has_fault = false;
     for path in order.records.unwrap_or(&["-"]) {
         if let Err(refused) = add_at(rt, path, input, &mut transcript) {
-            tell_refused(path, refused, errors)?;
+            print_refused_log(path, refused, errors)?;
             has_fault = true;
         }
     }
     match transcript.write(rt.alloc(), output) {
         Ok(()) => Ok(if has_fault { FAULT } else { CLEAN }),
         Err(error) if error.kind() == ErrorKind::OutOfMemory => {
-            tell(errors, LogFault::Memory, FAULT)
+            print_fault(errors, LogFault::Memory, FAULT)
         }
-        Err(_) => tell(errors, LogFault::Write, FAULT),
+        Err(_) => print_fault(errors, LogFault::Write, FAULT),
     }
 }

@@ -6,7 +6,7 @@ ghost use Rattle.std.specs.Prelude.{◌≡◌, ◌≤◌, IfOk};
 ghost use Rattle.std.specs.Option.{is_some};
 ghost use Rattle.daide_tools.specs.Trials.{trials_status};
 
-use crate::faults::{CLEAN, FAULT, tell};
+use crate::faults::{CLEAN, FAULT, print_fault};
 use daide_settings::{JudgeFault, Key, Settings};
 use daide_sockets::addresses::{AddressFault, try_connect, try_listen};
 use daide_sockets::control_listener::try_control;
@@ -57,7 +57,7 @@ fn write_passed<O: Write>(settings: &Settings, trials: Trials, output: &mut O) -
 }
 
 /// Reports the fault of the value of a key, if it has one. Returns true if it has.
-fn tell_fault<E: Write>(
+fn print_address_fault<E: Write>(
     key: Key,
     value: &str,
     fault: Option<AddressFault>,
@@ -68,23 +68,23 @@ fn tell_fault<E: Write>(
     let Some(fault) = fault else {
         return Ok(false);
     };
-    tell(errors, format_args!("{key} {value}: {fault}"), FAULT)?;
+    print_fault(errors, format_args!("{key} {value}: {fault}"), FAULT)?;
     Ok(true)
 }
 
 /// Reports each trial that failed. Returns the status.
-fn tell_failed<E: Write>(settings: &Settings, trials: Trials, errors: &mut E) -> io::Result<u8>
+fn print_failed<E: Write>(settings: &Settings, trials: Trials, errors: &mut E) -> io::Result<u8>
     ensures { IfOk result (λ status. status ≡ trials_status trials) }
 {
     let listen = settings.listen.as_str();
-    let mut has_failed = tell_fault(Key::Listen, listen, trials.listen.err(), errors)?;
+    let mut has_failed = print_address_fault(Key::Listen, listen, trials.listen.err(), errors)?;
     let server = settings.server.as_str();
-    has_failed |= tell_fault(Key::Server, server, trials.server.err(), errors)?;
+    has_failed |= print_address_fault(Key::Server, server, trials.server.err(), errors)?;
     let control = match &settings.control {
         Some(path) => path.as_str(),
         None => "",
     };
-    has_failed |= tell_fault(Key::Control, control, trials.control.err(), errors)?;
+    has_failed |= print_address_fault(Key::Control, control, trials.control.err(), errors)?;
     Ok(if has_failed { FAULT } else { CLEAN })
 }
 
@@ -99,7 +99,7 @@ pub(crate) fn try_settings<R: AllocGlobal + Files + Clock + Net, O: Write, E: Wr
 {
     let trials = trials_of(rt, settings);
     match write_passed(settings, trials, output) {
-        Ok(()) => tell_failed(settings, trials, errors),
-        Err(_) => tell(errors, JudgeFault::Write, FAULT),
+        Ok(()) => print_failed(settings, trials, errors),
+        Err(_) => print_fault(errors, JudgeFault::Write, FAULT),
     }
 }

@@ -132,14 +132,14 @@ impl Predict for Extended {
     }
 
     #[inline(always)]
-    fn predict_token(&mut self, sym: TopSymbol, token: Token, known: Column) -> Move {
-        self.table.predict_token(sym, token, known)
+    fn predict_token(&mut self, sym: TopSymbol, token: Token, column: Column) -> Move {
+        self.table.predict_token(sym, token, column)
     }
 
-    fn predict_word(&mut self, sym: Symbol, token: Token, known: Column) -> Move {
-        let answer = self.table.predict_word(sym, token, known);
+    fn predict_word(&mut self, sym: Symbol, token: Token, column: Column) -> Move {
+        let answer = self.table.predict_word(sym, token, column);
         if answer.is_stop() {
-            let class = class_with(&self.words, token, known);
+            let class = class_with(&self.words, token, column);
             return where_stopped(&self.words, sym, class);
         }
         answer

@@ -41,18 +41,14 @@ fn check_acceptor<'w>(
     poller.poll(true);
     acceptor.pause(poller.table.after(Duration::ZERO), ErrorKind::Other);
     holds(acceptor.accept(poller).is_none(), "none is made")?;
-    acceptor.watch(&mut poller.table);
+    acceptor.arm(&mut poller.table);
     let end = poller.table.after(Duration::from_millis(100));
-    same(&poller.table.watched(), &(false, end), &"a pause of 100 ms")?;
+    same(&poller.table.armed(), &(false, end), &"a pause of 100 ms")?;
     poller.poll(true);
     holds(acceptor.accept(poller).is_some(), "the bot that came")?;
-    poller.table.unwatch();
-    acceptor.watch(&mut poller.table);
-    same(
-        &poller.table.watched(),
-        &(false, None),
-        &"the pause is over",
-    )
+    poller.table.disarm();
+    acceptor.arm(&mut poller.table);
+    same(&poller.table.armed(), &(false, None), &"the pause is over")
 }
 
 /// The same for a listener.
@@ -128,8 +124,8 @@ fn sockets_of<'w, 't>(
     let time = Duration::from_secs(5);
     let network = network_of(rt, listener).ok()?;
     let table = SocketTable::new(rt.alloc(), 1, 2).ok()?;
-    let ground = (network, servers, table, pool);
-    Sockets::new(rt.alloc(), ground, settings, time, told)
+    let resources = (network, servers, table, pool);
+    Sockets::new(rt.alloc(), resources, settings, time, told)
 }
 
 /// Returns a listener with a bot in its queue, and the bot.

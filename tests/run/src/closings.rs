@@ -34,9 +34,9 @@ fn goes_on(poller: &mut StillPoller, closings: &mut Closings<'_, Wire>, key: usi
     poller.network.ready[key % ROWS] = true;
     poller.poll(true);
     closings.advance(&mut poller.table);
-    poller.table.unwatch();
-    closings.watch(&mut poller.table);
-    let (goes_on, due) = poller.table.watched();
+    poller.table.disarm();
+    closings.arm(&mut poller.table);
+    let (goes_on, due) = poller.table.armed();
     (due.is_some(), goes_on, closings.is_empty())
 }
 
@@ -95,7 +95,7 @@ fn closes_second(
         poller.network.ready[first % ROWS] = true;
         goes_on(poller, closings, second);
     }
-    let (may_go_on, due) = poller.table.watched();
+    let (may_go_on, due) = poller.table.armed();
     let is_alone = !may_go_on && !closings.is_empty();
     let is_waited_for = due.is_none();
     (

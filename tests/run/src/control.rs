@@ -167,11 +167,11 @@ impl<'n> Network for Door<'n> {
         Instant::now(&At(self.now)).ok()
     }
 
-    fn poll(&mut self, _timeout: Option<Duration>, news: &mut Vec<SocketEvent>) {
+    fn poll(&mut self, _timeout: Option<Duration>, socket_events: &mut Vec<SocketEvent>) {
         self.now = self.now.saturating_add(self.step);
-        news.clear();
+        socket_events.clear();
         for key in 0..ROWS {
-            let _ = news.push(SocketEvent {
+            let _ = socket_events.push(SocketEvent {
                 key,
                 may_read: true,
                 may_write: true,
@@ -422,8 +422,8 @@ fn sockets_on<'w, 'n, 't>(
     told: &'t mut Vec<u8>,
 ) -> Result<DoorSockets<'w, 'n, 't>, Fail> {
     let table = SocketTable::new(alloc, 1, 2)?;
-    let ground = (door, server, table, pool);
-    match Sockets::new(alloc, ground, settings, Duration::from_secs(5), told) {
+    let resources = (door, server, table, pool);
+    match Sockets::new(alloc, resources, settings, Duration::from_secs(5), told) {
         Some(sockets) => Ok(sockets),
         None => Err(Fail::new("no sockets")),
     }
@@ -443,8 +443,8 @@ fn is_as_asked(rt: &HostRuntime, settings: &Settings, asked: &Asked) -> Result<b
     let seen = nothing_seen(rt.alloc());
     let pool = Pool::new(rt.alloc());
     let mut told = Vec::new(rt.alloc());
-    let ground = (door_of(clients, 0, step, &seen), [].as_slice());
-    let mut sockets = sockets_on(rt.alloc(), ground, &pool, settings, &mut told)?;
+    let resources = (door_of(clients, 0, step, &seen), [].as_slice());
+    let mut sockets = sockets_on(rt.alloc(), resources, &pool, settings, &mut told)?;
     let mut ready = ReadyQueue::new(rt.alloc(), 1)?;
     let orders = orders_after(&mut sockets, &mut ready, rounds);
     Ok(
@@ -511,8 +511,8 @@ fn session_ends_at_stop_now(rt: HostRuntime) -> Result<(), Fail> {
     let pool = Pool::new(rt.alloc());
     let mut told = Vec::new(rt.alloc());
     let server = [SocketAddr::from(([127, 0, 0, 1], 16_714))];
-    let ground = (door_of(STOPS_NOW, 1, 0, &seen), server.as_slice());
-    let mut sockets = sockets_on(rt.alloc(), ground, &pool, &settings, &mut told)?;
+    let resources = (door_of(STOPS_NOW, 1, 0, &seen), server.as_slice());
+    let mut sockets = sockets_on(rt.alloc(), resources, &pool, &settings, &mut told)?;
     let mut ready = ReadyQueue::new(rt.alloc(), 1)?;
     let mut ports = first_ports(&mut sockets, &mut ready)?;
     let idle = (ClockEvent::NoEvent, Pull::Idle, Pull::Idle);

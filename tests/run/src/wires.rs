@@ -401,10 +401,10 @@ fn flags_by_rows(rt: HostRuntime) -> Result<(), Fail> {
 
 /// Puts, flushes and puts again. Returns the result of each put, and whether the write buffer may be written then.
 fn puts_of(socket: &mut Socket<'_, Wire>) -> ((Put, bool), (Put, bool)) {
-    let first = (socket.put(None, b"abc"), socket.stream.is_behind());
+    let first = (socket.put(None, b"abc"), socket.stream.has_queued());
     socket.flush_at(None);
-    let is_behind = socket.stream.is_behind();
-    (first, (socket.put(None, b"d"), is_behind))
+    let has_queued = socket.stream.has_queued();
+    (first, (socket.put(None, b"d"), has_queued))
 }
 
 /// Returns a socket whose stream's writes fail.
@@ -455,12 +455,12 @@ impl Network for Still {
         Instant::now(&self.clock).ok()
     }
 
-    fn poll(&mut self, timeout: Option<Duration>, news: &mut Vec<SocketEvent>) {
-        news.clear();
+    fn poll(&mut self, timeout: Option<Duration>, socket_events: &mut Vec<SocketEvent>) {
+        socket_events.clear();
         self.timeout = timeout;
         for (key, is_ready) in self.ready.iter().enumerate() {
             if *is_ready {
-                let _ = news.push(SocketEvent {
+                let _ = socket_events.push(SocketEvent {
                     key,
                     may_read: true,
                     may_write: true,

@@ -100,7 +100,7 @@ impl System<MemoryPorts<'static>> for Crowd {
 
     fn retire(&mut self, _place: usize, _ports: MemoryPorts<'static>, _end: SessionEnd) {}
 
-    fn tell(&mut self, _notice: Notice) {}
+    fn log(&mut self, _notice: Notice) {}
 }
 
 /// Returns the turns of calm sessions and of busy ones in a round with this number of each.

@@ -249,7 +249,7 @@ impl System<MemoryPorts<'static>> for Harness {
             .push((end.cause, end.account.summary(), end.fault_field));
     }
 
-    fn tell(&mut self, notice: Notice) {
+    fn log(&mut self, notice: Notice) {
         self.note(Event::Told(notice));
     }
 }

@@ -63,7 +63,7 @@ impl System<MemoryPorts<'static>> for Silence {
         self.note();
     }
 
-    fn tell(&mut self, _notice: Notice) {
+    fn log(&mut self, _notice: Notice) {
         self.note();
     }
 }

@@ -83,7 +83,7 @@ impl System<MemoryPorts<'static>> for Turns {
 
     fn retire(&mut self, _place: usize, _ports: MemoryPorts<'static>, _end: SessionEnd) {}
 
-    fn tell(&mut self, _notice: Notice) {}
+    fn log(&mut self, _notice: Notice) {}
 }
 
 /// A bot that sends its IM.

@@ -180,14 +180,14 @@ fn left_to_do(wire: &Wire, reading: u64, rules: RunTimes) -> Option<&'static str
     let is_excused = wire.told_failure || wire.is_stalled(reading, rules.stall);
     let may_write = wire.room() > 0 && !wire.due.write && !wire.due.end;
     let is_broken = wire.is_reset && !wire.due.end && !wire.due.write;
-    if wire.is_behind() && !is_excused && (may_write || is_broken) {
+    if wire.has_queued() && !is_excused && (may_write || is_broken) {
         return Some("bytes are held that may be written");
     }
     let may_read = wire.is_readable() && !wire.due.read && !wire.due.end && !wire.told_end;
     if wire.place == Place::Session && wire.is_awaited && may_read {
         return Some("bytes came that nobody reads");
     }
-    let is_written = !wire.is_behind() || wire.told_failure;
+    let is_written = !wire.has_queued() || wire.told_failure;
     if wire.place == Place::Closing && is_written && may_read {
         return Some("a closing wire has bytes that nobody reads");
     }
@@ -238,7 +238,7 @@ fn limit_of(wire: &Wire, rules: RunTimes) -> u64 {
 fn ends_by_stall(wire: &Wire) -> bool {
     let ends_session = wire.is_awaited && !wire.has_ended;
     let ends_put = wire.accepted < wire.answered;
-    wire.is_behind() && !wire.told_failure && (ends_session || ends_put)
+    wire.has_queued() && !wire.told_failure && (ends_session || ends_put)
 }
 
 /// Returns what of a wire is overdue, or was reported for long and led to no call.
@@ -249,7 +249,7 @@ fn overdue_of(wire: &mut Wire, moment: Moment, rules: RunTimes) -> Option<&'stat
         has_jumped,
     } = moment;
     let is_quiet = wire.reported_at > 0 && wire.reported_at.saturating_add(PATIENCE) < polls;
-    let is_written = !wire.is_behind() || wire.told_failure;
+    let is_written = !wire.has_queued() || wire.told_failure;
     if wire.place == Place::Closing && is_quiet && is_written && wire.is_readable() {
         return Some("a closing wire is passed over");
     }

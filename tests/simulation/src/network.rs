@@ -66,7 +66,7 @@ fn wrong_end(wire: &Wire, reading: u64, stall: u64) -> Option<&'static str> {
     if wire.told_failure || wire.is_stalled(reading, stall) || wire.bound(stall) <= reading {
         return None;
     }
-    if wire.is_behind() {
+    if wire.has_queued() {
         return Some("a wire was dropped before its last byte");
     }
     let Some(shut_at) = wire.shut_at else {
@@ -228,7 +228,7 @@ fn shut_down(state: &mut State, index: usize) {
     if wire.reported_at > 0 {
         wire.reported_at = polls;
     }
-    let is_early = wire.is_behind() && !wire.told_failure && !wire.is_stalled(reading, stall);
+    let is_early = wire.has_queued() && !wire.told_failure && !wire.is_stalled(reading, stall);
     let is_new = wire.place != Place::Closing;
     if is_new {
         wire.closing_from = Some(reading);
@@ -360,9 +360,9 @@ impl<'n> Network for MemoryNetwork<'n> {
         Instant::now(&At(state.read_clock())).ok()
     }
 
-    fn poll(&mut self, timeout: Option<Duration>, news: &mut Vec<SocketEvent>) {
+    fn poll(&mut self, timeout: Option<Duration>, socket_events: &mut Vec<SocketEvent>) {
         if let Ok(mut state) = self.world.state.try_borrow_mut() {
-            state.poll(timeout, news);
+            state.poll(timeout, socket_events);
         }
     }
 

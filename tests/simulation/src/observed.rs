@@ -716,8 +716,8 @@ impl<'w, 'n> System<ObservedPorts<'w, 'n>> for ObservedSockets<'w, 'n> {
         self.check_line(before, number, "ended", bot);
     }
 
-    fn tell(&mut self, notice: Notice) {
+    fn log(&mut self, notice: Notice) {
         self.is_spent = self.is_spent || notice == Notice::TurnsSpent;
-        self.sockets.tell(notice);
+        self.sockets.log(notice);
     }
 }

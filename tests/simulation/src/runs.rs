@@ -87,12 +87,12 @@ fn end_of(served: Result<(), ServeFault>) -> RunEnd {
 fn run_on(
     alloc: Global,
     settings: &Settings,
-    ground: (MemoryNetwork<'_>, &[SocketAddr], SocketTable, &Pool),
+    resources: (MemoryNetwork<'_>, &[SocketAddr], SocketTable, &Pool),
     heap: Option<&LocalHeap>,
 ) -> RunEnd {
-    let world = ground.0.world;
+    let world = resources.0.world;
     let lines = Lines::new(alloc, world);
-    let Some(mut sockets) = sockets_on(alloc, settings, ground, lines) else {
+    let Some(mut sockets) = sockets_on(alloc, settings, resources, lines) else {
         return RunEnd::GivenUp;
     };
     sockets.set_verbose(true);
@@ -147,8 +147,8 @@ fn run(alloc: Global, seed: u64, limit: u64) -> io::Result<(u64, Tally, Option<F
     let servers = [one, other];
     let count = if random.one_in(2) { 1 } else { 2 };
     let network = MemoryNetwork { world: &world };
-    let ground = (network, &servers[..count], table, &pool);
-    let end = run_on(alloc, &settings, ground, heap.as_ref());
+    let resources = (network, &servers[..count], table, &pool);
+    let end = run_on(alloc, &settings, resources, heap.as_ref());
     let World { state } = world;
     let mut state = state.into_inner();
     check_rest(&mut state, end);

@@ -478,8 +478,8 @@ impl State {
 
     /// Polls: checks that nothing is left to do if it may wait, lets time pass, and reports. Now and then it fails, and
     /// reports nothing.
-    pub fn poll(&mut self, timeout: Option<Duration>, news: &mut Vec<SocketEvent>) {
-        news.clear();
+    pub fn poll(&mut self, timeout: Option<Duration>, socket_events: &mut Vec<SocketEvent>) {
+        socket_events.clear();
         self.polls = self.polls.saturating_add(1);
         if self.polls == self.limit {
             self.end();
@@ -492,8 +492,8 @@ impl State {
         if self.is_over {
             self.is_listener_due = true;
         }
-        self.report(news);
-        self.check_spin(timeout, news.is_empty());
+        self.report(socket_events);
+        self.check_spin(timeout, socket_events.is_empty());
     }
 
     /// Checks that polls don't follow one another without a reason.
@@ -510,11 +510,11 @@ impl State {
     }
 
     /// Reports what is due, or a part of it, and now and then what is not.
-    fn report(&mut self, news: &mut Vec<SocketEvent>) {
+    fn report(&mut self, socket_events: &mut Vec<SocketEvent>) {
         if let Some(key) = self.listener {
             if self.is_listener_due {
                 self.is_listener_due = false;
-                let _ = news.push(event(
+                let _ = socket_events.push(event(
                     key,
                     Due {
                         read: true,
@@ -523,30 +523,30 @@ impl State {
                 ));
             }
         }
-        self.report_operator(news);
+        self.report_operator(socket_events);
         let most = if self.random.one_in(self.style.scarce) {
             usize::try_from(self.random.between(1, 6)).unwrap_or(1)
         } else {
-            news.capacity()
+            socket_events.capacity()
         };
         for _ in 0..self.due.len() {
-            if news.len() >= most {
+            if socket_events.len() >= most {
                 return;
             }
             if let Some(index) = self.due.pop_front() {
-                self.report_one(index, news);
+                self.report_one(index, socket_events);
             }
         }
-        if self.random.one_in(4) && news.len() < most {
-            self.report_spurious(news);
+        if self.random.one_in(4) && socket_events.len() < most {
+            self.report_spurious(socket_events);
         }
     }
 
     /// Reports what is due at the control socket.
-    fn report_operator(&mut self, news: &mut Vec<SocketEvent>) {
+    fn report_operator(&mut self, socket_events: &mut Vec<SocketEvent>) {
         let (listener, client) = self.operator.report();
         for key in [listener, client].into_iter().flatten() {
-            let _ = news.push(event(
+            let _ = socket_events.push(event(
                 key,
                 Due {
                     end: false,
@@ -557,7 +557,7 @@ impl State {
     }
 
     /// Reports what is due of a wire.
-    fn report_one(&mut self, index: usize, news: &mut Vec<SocketEvent>) {
+    fn report_one(&mut self, index: usize, socket_events: &mut Vec<SocketEvent>) {
         let polls = self.polls;
         let Some(wire) = self.wire(index) else {
             return;
@@ -574,16 +574,16 @@ impl State {
         if report.may_read && wire.reported_at == 0 {
             wire.reported_at = polls;
         }
-        let _ = news.push(report);
+        let _ = socket_events.push(report);
     }
 
     /// Reports of some wire what is not so.
-    fn report_spurious(&mut self, news: &mut Vec<SocketEvent>) {
+    fn report_spurious(&mut self, socket_events: &mut Vec<SocketEvent>) {
         let count = u64::try_from(self.wires.len()).unwrap_or(0);
         let index = usize::try_from(self.random.below(count)).unwrap_or(0);
         if let Some(Some(wire)) = self.wires.get(index) {
             if let (Some(key), false) = (wire.key, wire.is_due()) {
-                let _ = news.push(event(
+                let _ = socket_events.push(event(
                     key,
                     Due {
                         end: false,

@@ -240,14 +240,14 @@ impl Wire {
     }
 
     /// Returns whether something of it is to be written, or may be.
-    pub fn is_behind(&self) -> bool {
+    pub fn has_queued(&self) -> bool {
         !self.expected.is_empty()
     }
 
     /// Returns whether its stall timeout may be over, or was when its session ended.
     pub fn is_stalled(&self, reading: u64, stall: u64) -> bool {
         let until = self.moved_at.saturating_add(stall);
-        self.was_stalled || stall > 0 && self.is_behind() && until <= reading
+        self.was_stalled || stall > 0 && self.has_queued() && until <= reading
     }
 
     /// Returns the reading at which it is closed at the latest: the stall timeout and a second after its closing began. The

@@ -28,22 +28,22 @@ use std::net::SocketAddr;
 
 impl<'w, N: Network, E: Write + Drop> Sockets<'w, N, E> {
     /// Logs the address from which the server of a session was reached, if the system says it and sessions are logged.
-    fn tell_of_server(&mut self, ports: &SocketPorts<'w, N::Connection>)
+    fn log_server(&mut self, ports: &SocketPorts<'w, N::Connection>)
         ensures { self.new ≡ record self.old { errors = self.new.errors } }
     {
         let (_bot, server) = ports.connections();
         if let Some(own) = self.poller.network.local_address(server) {
             let number = ports.number();
-            self.tell_of_session(SessionNotice::Reached { number, own });
+            self.log_session(SessionNotice::Reached { number, own });
         }
     }
 
     /// Logs the address of a bot that may not come, if there is one and sessions are logged.
-    fn tell_of_declined(&mut self, declined: Option<SocketAddr>)
+    fn log_declined(&mut self, declined: Option<SocketAddr>)
         ensures { self.new ≡ record self.old { errors = self.new.errors } }
     {
         if let Some(bot) = declined {
-            self.tell_of_session(SessionNotice::Declined { bot });
+            self.log_session(SessionNotice::Declined { bot });
         }
     }
 
@@ -68,7 +68,7 @@ impl<'w, N: Network, E: Write + Drop> Sockets<'w, N, E> {
         let lasted = self.lasted(left.number);
         self.present.remove(left.number);
         self.unreached = self.unreached.saturating_add(1);
-        self.tell_of_session(SessionNotice::of_no_server(left.number, lasted));
+        self.log_session(SessionNotice::of_no_server(left.number, lasted));
         self.closings.begin(&mut self.poller, left.bot);
     }
 
@@ -158,7 +158,7 @@ impl<'w, N: Network, E: Write + Drop> Sockets<'w, N, E> {
         let now = self.poller.table.now();
         match arrival.join(now, (self.idle_time, self.stall_time)) {
             Ok(ports) => {
-                self.tell_of_server(&ports);
+                self.log_server(&ports);
                 self.poller.table.is_bounded();
                 Connect::Ready(ports)
             }
@@ -247,7 +247,7 @@ impl<'w, N: Network, E: Write + Drop> Sockets<'w, N, E> {
         let (number, bot, address) = match next {
             Ok(next) => next,
             Err(declined) => {
-                self.tell_of_declined(declined);
+                self.log_declined(declined);
                 return None;
             }
         };
@@ -300,7 +300,7 @@ impl<'w, N: Network, E: Write + Drop> Sockets<'w, N, E> {
             self.poller.table.is_bounded();
             return false;
         };
-        self.tell_of_session(began);
+        self.log_session(began);
         self.poller.table.is_bounded();
         true
     }

@@ -47,7 +47,7 @@ impl<'w, S: Duplex + Drop> RunLists<'w, S> {
         max_sessions: usize,
         stall_time: Option<Duration>,
     ) -> Option<RunLists<'w, S>>
-        ensures none_held { IfSome result (λ lists. (pending_connects lists.arrivals.items ≡ 0)
+        ensures none_pending { IfSome result (λ lists. (pending_connects lists.arrivals.items ≡ 0)
             × (lists.closings ≡ no_closing stall_time)) }
         ensures room { IfSome result (λ lists. length lists.arrivals.items ≡ max_sessions) }
         ensures none_present { IfSome result (λ lists. lists.present.bots.items ≡ []) }

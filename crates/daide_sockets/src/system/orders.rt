@@ -4,7 +4,7 @@ ghost use Rattle.std.specs.Prelude.{◌≡◌, ◌<◌, ◌≤◌, ◌&&◌, ◌
 ghost use Rattle.daide_io.specs.Network.{StopsListening};
 ghost use Rattle.daide_status.specs.declared.snapshot.RunStatus.{RunStatus};
 ghost use Rattle.daide_sockets.specs.Accepting.{is_bot_due};
-ghost use Rattle.daide_sockets.specs.ControlSlots.{BeginsRound, IsControlRow, places, watching_control};
+ghost use Rattle.daide_sockets.specs.ControlSlots.{BeginsRound, IsControlRow, places, arming_control};
 ghost use Rattle.daide_sockets.specs.KeptRows.{ChangesRows};
 ghost use Rattle.daide_sockets.specs.Pairing.{pending_connects};
 ghost use Rattle.daide_sockets.specs.Snapshot.{counted, seconds_between, or_zero, IsRunStatus};
@@ -71,8 +71,8 @@ impl<'w, N: Network, E: Write + Drop> Sockets<'w, N, E> {
     fn has_no_orders(&self) -> bool
         ensures open { result ≡ true → self.now.bots_in_all ≤ self.now.acceptor.came → self.now.acceptor.is_closed ≡ true }
         ensures free { result ≡ true → places self.now.control.slots ≡ None ∷ None ∷ None ∷ None ∷ [] }
-        ensures watched { result ≡ true →
-            self.now.poller.table ≡ watching_control self.now.poller.table self.now.control }
+        ensures armed { result ≡ true →
+            self.now.poller.table ≡ arming_control self.now.poller.table self.now.control }
     {
         (self.acceptor.is_closed() || !self.has_all_bots())
             && self.control.is_at_rest(&self.poller.table)
@@ -102,7 +102,7 @@ impl<'w, N: Network, E: Write + Drop> Sockets<'w, N, E> {
     ///
     /// `control`: a status has the run as it is at the beginning of the round.
     ///
-    /// `watched`: the next poll watches the control socket.
+    /// `armed`: the next poll watches the control socket.
     pub(super) fn take_orders(&mut self) -> Orders
         ensures orders { result.stops_accepting ≡ self.new.control.stops_accepting }
         ensures kept { self.old.control.stops_accepting ≡ true → self.new.control.stops_accepting ≡ true }
@@ -114,8 +114,8 @@ impl<'w, N: Network, E: Write + Drop> Sockets<'w, N, E> {
             (or_zero (seconds_between self.old.control.started_at self.old.poller.table.reading)) run
             × BeginsRound N.Connection.to_give N.Connection.taken
             N.Connection.calls run self.old.poller.table self.old.control result self.new.control }
-        ensures watched { (before : Table) × ChangesRows (IsControlRow self.old.poller.table) self.old.poller.table before
-            × (self.new.poller.table ≡ watching_control before self.new.control) }
+        ensures armed { (before : Table) × ChangesRows (IsControlRow self.old.poller.table) self.old.poller.table before
+            × (self.new.poller.table ≡ arming_control before self.new.control) }
         ensures calls { GoesUnpolled N.transition self.old.poller.network self.new.poller.network }
         ensures closes { result.stops_accepting ≡ true → self.old.control.stops_accepting ≡ false →
             (before : N) × N.transition before StopsListening self.new.poller.network }
@@ -142,7 +142,7 @@ impl<'w, N: Network, E: Write + Drop> Sockets<'w, N, E> {
         if is_stopped_now || self.has_all_bots() && !self.acceptor.is_closed() {
             self.acceptor.close(&mut self.poller);
         }
-        self.control.watch(&mut self.poller.table);
+        self.control.arm(&mut self.poller.table);
         orders
     }
 }

@@ -6,7 +6,7 @@ use Rattle.daide_event_loop.proofs.IndependenceLemmas.{alike, end_alike}
 use Rattle.daide_event_loop.proofs.laws.sessions_are_independent.Goals as goal
 
 pub returns : goal.returns
-returns g c = λ settings other_settings answers other_answers now other_now session other_session rules same.
+returns g c = λ settings other_settings trace other_trace now other_now session other_session rules same.
     let limits = run_limits settings in
     let other_totals : HasTotals limits other_session.history other_now.0 =
     subst (λ (l : Limits). HasTotals l other_session.history other_now.0) (sym rules.limits) other_session.stands.1 in

@@ -39,9 +39,9 @@ returns-in_default-clause-refused g c = inl c.in_default.ensures.refused
 pub returns-in_err-round-clause-given_up : goal.returns-in_err-round-clause-given_up
 returns-in_err-round-clause-given_up g c =
     let broken = c.in_err-round.ensures.broken_off in
-    at_memory c.from_residual.result c.in_err-round.field-0.0 (λ (fault : ServeFault). (answers : List (SystemCall g.row.P.Denot))
-    × TransitsBy g.S.System.transition c.args.system.now answers c.round.new.system
-    × GivesUp g.A.Memory.Refuses g.P.Ports.transition c.args.settings.now fault answers)
+    at_memory c.from_residual.result c.in_err-round.field-0.0 (λ (fault : ServeFault). (trace : List (SystemCall g.row.P.Denot))
+    × TransitsBy g.S.System.transition c.args.system.now trace c.round.new.system
+    × GivesUp g.A.Memory.Refuses g.P.Ports.transition c.args.settings.now fault trace)
     c.from_residual.ensures.1 c.in_err-round.ensures.refused
     (runs_out g.A.Memory.Refuses g.P.Ports.transition g.S.System.transition c.args.settings.now c.loop-round._round _ _ _ _ _ c.loop-round.invariant
     (sym c.is_done.ensures ∙ c.if-is_done.false) broken.0 broken.1 broken.2)

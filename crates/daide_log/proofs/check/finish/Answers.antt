@@ -30,12 +30,12 @@ returns-in-Err-Memory-clause-same_writer g c = c.close.ensures.same_writer
 
 pub returns-in-Ok-put_summary-clause-written : goal.returns-in-Ok-put_summary-clause-written
 returns-in-Ok-put_summary-clause-written g c =
-    let form = g.S.Style.form (words_of c.args.account.now.head.words) in (
+    let form = g.S.Style.form (words_of c.args.report.now.head.words) in (
       c.in-Ok.ensures.text.0,
-      appends_more (all_of g.W.Write.contents c.args.account.now.output) (all_of g.W.Write.contents c.close.new.output)
+      appends_more (all_of g.W.Write.contents c.args.report.now.output) (all_of g.W.Write.contents c.close.new.output)
           (all_of g.W.Write.contents c.put_summary.new.output)
-          (form.closing c.args.cut c.args.account.now.head.version (states_of c.args.sessions.now))
-          (summary_line c.args.account.now.summary) c.in-Ok.ensures.text.1 c.in-Ok-put_summary.ensures.text,
+          (form.closing c.args.cut c.args.report.now.head.version (states_of c.args.sessions.now))
+          (summary_line c.args.report.now.summary) c.in-Ok.ensures.text.1 c.in-Ok-put_summary.ensures.text,
     )
 
 pub returns-in-Ok-put_summary-clause-refused : goal.returns-in-Ok-put_summary-clause-refused

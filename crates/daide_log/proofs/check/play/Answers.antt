@@ -25,11 +25,11 @@ room_left number s more fits = record {
 
 pub lines-init : goal.lines-init
 lines-init g c = (
-  plays_first (g.S.Style.form (words_of c.args.account.now.head.words)) (IsReady c.args.account.now.head.limits.config (words_of c.args.account.now.head.words))
-      (g.S.Style.knows (words_of c.args.account.now.head.words) c.args.account.now.style.now)
-      (words_of c.args.account.now.head.words) (g.met.S.Style.lawful (words_of c.args.account.now.head.words)) (g.R.LogReader.reader_view c.args.input.now.reader.now) c.args.input.now.block c.args.lines
-      c.args.account.now.head.version
-      c.args.sessions.now.items c.args.account.now.summary (all_of g.W.Write.contents c.args.account.now.output)
+  plays_first (g.S.Style.form (words_of c.args.report.now.head.words)) (IsReady c.args.report.now.head.limits.config (words_of c.args.report.now.head.words))
+      (g.S.Style.knows (words_of c.args.report.now.head.words) c.args.report.now.style.now)
+      (words_of c.args.report.now.head.words) (g.met.S.Style.lawful (words_of c.args.report.now.head.words)) (g.R.LogReader.reader_view c.args.input.now.reader.now) c.args.input.now.block c.args.lines
+      c.args.report.now.head.version
+      c.args.sessions.now.items c.args.report.now.summary (all_of g.W.Write.contents c.args.report.now.output)
       c.requires.ready c.requires.lines c.requires.nothing c.requires.fresh,
   refl,
   refl,
@@ -38,49 +38,49 @@ lines-init g c = (
 
 pub returns-in_err-found-clause-answered : goal.returns-in_err-found-clause-answered
 returns-in_err-found-clause-answered g c = λ first before starts. (
-  nothing_reported (g.S.Style.form (words_of c.args.account.now.head.words)) _ _ c.from_residual.result c.from_residual.ensures.1,
+  nothing_reported (g.S.Style.form (words_of c.args.report.now.head.words)) _ _ c.from_residual.result c.from_residual.ensures.1,
   (
-      fault_handed_on (g.S.Style.form (words_of c.args.account.now.head.words)) _ (g.R.LogReader.reader_view c.find_line.new.input.reader.now)
+      fault_handed_on (g.S.Style.form (words_of c.args.report.now.head.words)) _ (g.R.LogReader.reader_view c.find_line.new.input.reader.now)
       (all_of g.W.Write.contents c.find_line.new.output) c.in_err-found.field-0.0 c.from_residual.result
       c.from_residual.ensures.1
-      (fault_in_play (g.S.Style.form (words_of c.args.account.now.head.words)) (IsReady c.args.account.now.head.limits.config (words_of c.args.account.now.head.words)) _ _ (g.R.LogReader.reader_view c.lines.input.reader.now)
+      (fault_in_play (g.S.Style.form (words_of c.args.report.now.head.words)) (IsReady c.args.report.now.head.limits.config (words_of c.args.report.now.head.words)) _ _ (g.R.LogReader.reader_view c.lines.input.reader.now)
       (g.R.LogReader.reader_view c.find_line.new.input.reader.now) c.lines.input.block c.find_line.new.input.block
-      c.find_line.new.input.text.items c.lines.count c.args.account.now.head.version c.lines.sessions.items
-      (length c.args.sessions.now.items) c.lines.account.summary (all_of g.W.Write.contents c.lines.account.output)
+      c.find_line.new.input.text.items c.lines.count c.args.report.now.head.version c.lines.sessions.items
+      (length c.args.sessions.now.items) c.lines.report.summary (all_of g.W.Write.contents c.lines.report.output)
       (all_of g.W.Write.contents c.find_line.new.output) c.in_err-found.field-0.0 c.lines.invariant.0
       c.in_err-found.ensures.found c.in_err-found.ensures.kept_at_fault)) first before starts,
 )
 
 pub returns-in_err-judge_line-clause-answered : goal.returns-in_err-judge_line-clause-answered
 returns-in_err-judge_line-clause-answered g c = λ first before starts. (
-  nothing_reported (g.S.Style.form (words_of c.args.account.now.head.words)) _ _ c.from_residual-in_err-judge_line.result c.from_residual-in_err-judge_line.ensures.1,
+  nothing_reported (g.S.Style.form (words_of c.args.report.now.head.words)) _ _ c.from_residual-in_err-judge_line.result c.from_residual-in_err-judge_line.ensures.1,
   (
-      fault_handed_on (g.S.Style.form (words_of c.args.account.now.head.words)) _ (g.R.LogReader.reader_view c.find_line.new.input.reader.now)
-      (all_of g.W.Write.contents c.judge_line.new.account.output) c.in_err-judge_line.field-0.0
+      fault_handed_on (g.S.Style.form (words_of c.args.report.now.head.words)) _ (g.R.LogReader.reader_view c.find_line.new.input.reader.now)
+      (all_of g.W.Write.contents c.judge_line.new.report.output) c.in_err-judge_line.field-0.0
       c.from_residual-in_err-judge_line.result c.from_residual-in_err-judge_line.ensures.1
-      (bad_in_play (g.S.Style.form (words_of c.args.account.now.head.words)) (IsReady c.args.account.now.head.limits.config (words_of c.args.account.now.head.words)) _ _ (g.R.LogReader.reader_view c.lines.input.reader.now) (g.R.LogReader.reader_view c.find_line.new.input.reader.now)
+      (bad_in_play (g.S.Style.form (words_of c.args.report.now.head.words)) (IsReady c.args.report.now.head.limits.config (words_of c.args.report.now.head.words)) _ _ (g.R.LogReader.reader_view c.lines.input.reader.now) (g.R.LogReader.reader_view c.find_line.new.input.reader.now)
       c.lines.input.block (rest_after c.in_ok-found.found c.find_line.new.input.block)
       (line_at c.in_ok-found.found c.find_line.new.input.block c.find_line.new.input.text.items) c.lines.count
-      c.args.account.now.head.version
-      c.lines.sessions.items (length c.args.sessions.now.items) c.lines.account.summary
-      (all_of g.W.Write.contents c.lines.account.output) (all_of g.W.Write.contents c.find_line.new.output)
-      (all_of g.W.Write.contents c.judge_line.new.account.output) c.in_ok-found.found c.in_err-judge_line.field-0.0
+      c.args.report.now.head.version
+      c.lines.sessions.items (length c.args.sessions.now.items) c.lines.report.summary
+      (all_of g.W.Write.contents c.lines.report.output) (all_of g.W.Write.contents c.find_line.new.output)
+      (all_of g.W.Write.contents c.judge_line.new.report.output) c.in_ok-found.found c.in_err-judge_line.field-0.0
       c.lines.invariant.0 c.in_ok-found.ensures.found (sym c.is_end.ensures ∙ c.if-is_end.false)
       c.in_ok-found.ensures.kept
       (λ last wrong. c.is_cut.ensures.whole c.if-is_cut.false last
       (subst (λ (h : Preamble). event_in h.version (length c.lines.sessions.items) c.line-line.result.now ≡ None)
       (sym c.lines.invariant.3)
-      (subst (λ (l : List ℕ). event_in c.args.account.now.head.version (length c.lines.sessions.items) l ≡ None)
-      (sym c.line-line.ensures) wrong)) (words_of c.args.account.now.head.words))
+      (subst (λ (l : List ℕ). event_in c.args.report.now.head.version (length c.lines.sessions.items) l ≡ None)
+      (sym c.line-line.ensures) wrong)) (words_of c.args.report.now.head.words))
       (subst (λ (h : Preamble). IsLateFault (g.S.Style.form (words_of h.words)) (HasFailed g.W.Sink.Fails) g.S.Style.refused c.in_err-judge_line.field-0.0
       ⊎ ((c.in_err-judge_line.field-0.0 ≡ BadLine (c.lines.count + 1))
       × (event_in h.version (length c.lines.sessions.items)
       (line_at c.in_ok-found.found c.find_line.new.input.block c.find_line.new.input.text.items) ≡ None)
-      × (all_of g.W.Write.contents c.judge_line.new.account.output ≡ all_of g.W.Write.contents c.find_line.new.output))) c.lines.invariant.3
-      (subst (λ (l : List ℕ). IsLateFault (g.S.Style.form (words_of c.lines.account.head.words)) (HasFailed g.W.Sink.Fails) g.S.Style.refused c.in_err-judge_line.field-0.0
+      × (all_of g.W.Write.contents c.judge_line.new.report.output ≡ all_of g.W.Write.contents c.find_line.new.output))) c.lines.invariant.3
+      (subst (λ (l : List ℕ). IsLateFault (g.S.Style.form (words_of c.lines.report.head.words)) (HasFailed g.W.Sink.Fails) g.S.Style.refused c.in_err-judge_line.field-0.0
       ⊎ ((c.in_err-judge_line.field-0.0 ≡ BadLine (c.lines.count + 1))
-      × (event_in c.lines.account.head.version (length c.lines.sessions.items) l ≡ None)
-      × (all_of g.W.Write.contents c.judge_line.new.account.output ≡ all_of g.W.Write.contents c.find_line.new.output)))
+      × (event_in c.lines.report.head.version (length c.lines.sessions.items) l ≡ None)
+      × (all_of g.W.Write.contents c.judge_line.new.report.output ≡ all_of g.W.Write.contents c.find_line.new.output)))
       c.line-line.ensures c.in_err-judge_line.ensures.refused)))) first before starts,
 )
 
@@ -93,48 +93,48 @@ pub returns-in_err-judge_line-clause-cause : goal.returns-in_err-judge_line-clau
 returns-in_err-judge_line-clause-cause g c =
     handed_on g.R.LogReader.Fails g.W.Sink.Fails g.S.Style.refused c.from_residual-in_err-judge_line.result c.in_err-judge_line.field-0.0
     c.from_residual-in_err-judge_line.ensures.1
-    (judged_cause g.R.LogReader.Fails g.W.Sink.Fails (g.S.Style.form (words_of c.lines.account.head.words)) g.S.Style.refused
-    (event_in c.lines.account.head.version (length c.lines.sessions.items) c.line-line.result.now ≡ None)
-    (all_of g.W.Write.contents c.judge_line.new.account.output ≡ all_of g.W.Write.contents c.find_line.new.output)
+    (judged_cause g.R.LogReader.Fails g.W.Sink.Fails (g.S.Style.form (words_of c.lines.report.head.words)) g.S.Style.refused
+    (event_in c.lines.report.head.version (length c.lines.sessions.items) c.line-line.result.now ≡ None)
+    (all_of g.W.Write.contents c.judge_line.new.report.output ≡ all_of g.W.Write.contents c.find_line.new.output)
     c.in_err-judge_line.field-0.0 (c.lines.count + 1) c.in_err-judge_line.ensures.refused)
 
 pub returns-then-is_end-clause-cause : goal.returns-then-is_end-clause-cause
 returns-then-is_end-clause-cause g c =
-    late_causes g.R.LogReader.Fails g.W.Sink.Fails (g.S.Style.form (words_of c.lines.account.head.words)) g.S.Style.refused c.finish.result c.finish.ensures.refused
+    late_causes g.R.LogReader.Fails g.W.Sink.Fails (g.S.Style.form (words_of c.lines.report.head.words)) g.S.Style.refused c.finish.result c.finish.ensures.refused
 
 pub returns-then-is_last-clause-cause : goal.returns-then-is_last-clause-cause
 returns-then-is_last-clause-cause g c =
-    late_causes g.R.LogReader.Fails g.W.Sink.Fails (g.S.Style.form (words_of c.judge_line.new.account.head.words)) g.S.Style.refused c.finish-then-is_last.result
+    late_causes g.R.LogReader.Fails g.W.Sink.Fails (g.S.Style.form (words_of c.judge_line.new.report.head.words)) g.S.Style.refused c.finish-then-is_last.result
     c.finish-then-is_last.ensures.refused
 
 pub returns-then-is_cut-clause-cause : goal.returns-then-is_cut-clause-cause
 returns-then-is_cut-clause-cause g c =
-    late_causes g.R.LogReader.Fails g.W.Sink.Fails (g.S.Style.form (words_of c.lines.account.head.words)) g.S.Style.refused c.finish-then-is_cut.result
+    late_causes g.R.LogReader.Fails g.W.Sink.Fails (g.S.Style.form (words_of c.lines.report.head.words)) g.S.Style.refused c.finish-then-is_cut.result
     c.finish-then-is_cut.ensures.refused
 
 pub returns-then-is_end-clause-answered : goal.returns-then-is_end-clause-answered
 returns-then-is_end-clause-answered g c = λ first before starts. (
   (
-      finished_at_end (g.S.Style.form (words_of c.args.account.now.head.words)) (IsReady c.args.account.now.head.limits.config (words_of c.args.account.now.head.words)) _ _ (g.R.LogReader.reader_view c.lines.input.reader.now) (g.R.LogReader.reader_view c.find_line.new.input.reader.now)
+      finished_at_end (g.S.Style.form (words_of c.args.report.now.head.words)) (IsReady c.args.report.now.head.limits.config (words_of c.args.report.now.head.words)) _ _ (g.R.LogReader.reader_view c.lines.input.reader.now) (g.R.LogReader.reader_view c.find_line.new.input.reader.now)
       c.lines.input.block c.find_line.new.input.block c.find_line.new.input.text.items c.lines.count
-      c.args.account.now.head.version
-      c.lines.sessions.items (length c.args.sessions.now.items) c.lines.account.summary
-      (all_of g.W.Write.contents c.lines.account.output) (all_of g.W.Write.contents c.find_line.new.output) (all_of g.W.Write.contents c.finish.new.account.output)
+      c.args.report.now.head.version
+      c.lines.sessions.items (length c.args.sessions.now.items) c.lines.report.summary
+      (all_of g.W.Write.contents c.lines.report.output) (all_of g.W.Write.contents c.find_line.new.output) (all_of g.W.Write.contents c.finish.new.report.output)
       c.finish.result c.lines.invariant.0
-      (subst (λ (f : LineEnd). IsFound (all_of g.W.Write.contents c.lines.account.output) (g.R.LogReader.reader_view c.lines.input.reader.now) c.lines.input.block c.lines.count (Ok f)
+      (subst (λ (f : LineEnd). IsFound (all_of g.W.Write.contents c.lines.report.output) (g.R.LogReader.reader_view c.lines.input.reader.now) c.lines.input.block c.lines.count (Ok f)
       (line_at f c.find_line.new.input.block c.find_line.new.input.text.items)
       (g.R.LogReader.reader_view c.find_line.new.input.reader.now) (rest_after f c.find_line.new.input.block))
       (at_end c.in_ok-found.found (sym c.is_end.ensures ∙ c.if-is_end.true)) c.in_ok-found.ensures.found)
       c.in_ok-found.ensures.kept
       (subst (λ (h : Preamble). IfOk c.finish.result (λ answer. IsFinished (g.S.Style.form (words_of h.words)) None h.version
-      (states_of c.lines.sessions.items) c.lines.account.summary (all_of g.W.Write.contents c.find_line.new.output)
-      (all_of g.W.Write.contents c.finish.new.account.output) answer)) c.lines.invariant.3 (rw c.deref.ensures.value at c.finish.ensures.written))) first before starts,
+      (states_of c.lines.sessions.items) c.lines.report.summary (all_of g.W.Write.contents c.find_line.new.output)
+      (all_of g.W.Write.contents c.finish.new.report.output) answer)) c.lines.invariant.3 (rw c.deref.ensures.value at c.finish.ensures.written))) first before starts,
   (
-      unfinished (g.S.Style.form (words_of c.args.account.now.head.words)) (HasFailed g.W.Sink.Fails) g.S.Style.refused (IsReady c.args.account.now.head.limits.config (words_of c.args.account.now.head.words)) _ _ (g.R.LogReader.reader_view c.lines.input.reader.now) (g.R.LogReader.reader_view c.find_line.new.input.reader.now)
+      unfinished (g.S.Style.form (words_of c.args.report.now.head.words)) (HasFailed g.W.Sink.Fails) g.S.Style.refused (IsReady c.args.report.now.head.limits.config (words_of c.args.report.now.head.words)) _ _ (g.R.LogReader.reader_view c.lines.input.reader.now) (g.R.LogReader.reader_view c.find_line.new.input.reader.now)
       c.lines.input.block (rest_after c.in_ok-found.found c.find_line.new.input.block)
       (line_at c.in_ok-found.found c.find_line.new.input.block c.find_line.new.input.text.items) c.lines.count
-      c.args.account.now.head.version c.lines.sessions.items (length c.args.sessions.now.items) c.lines.account.summary
-      (all_of g.W.Write.contents c.lines.account.output) (all_of g.W.Write.contents c.finish.new.account.output)
+      c.args.report.now.head.version c.lines.sessions.items (length c.args.sessions.now.items) c.lines.report.summary
+      (all_of g.W.Write.contents c.lines.report.output) (all_of g.W.Write.contents c.finish.new.report.output)
       c.in_ok-found.found c.finish.result c.lines.invariant.0 c.in_ok-found.ensures.found
       (subst (λ (h : Preamble). IfErr c.finish.result (IsLateFault (g.S.Style.form (words_of h.words)) (HasFailed g.W.Sink.Fails) g.S.Style.refused)) c.lines.invariant.3
       c.finish.ensures.refused)) first before starts,
@@ -144,45 +144,45 @@ pub returns-then-is_last-clause-answered : goal.returns-then-is_last-clause-answ
 returns-then-is_last-clause-answered g c = λ first before starts. (
   (
       let line = line_at c.in_ok-found.found c.find_line.new.input.block c.find_line.new.input.text.items in
-      finished_at_last (g.S.Style.form (words_of c.args.account.now.head.words)) (IsReady c.args.account.now.head.limits.config (words_of c.args.account.now.head.words)) _
-      (g.S.Style.knows (words_of c.args.account.now.head.words) c.judge_line.new.account.style.now) _ (g.R.LogReader.reader_view c.lines.input.reader.now) (g.R.LogReader.reader_view c.find_line.new.input.reader.now)
+      finished_at_last (g.S.Style.form (words_of c.args.report.now.head.words)) (IsReady c.args.report.now.head.limits.config (words_of c.args.report.now.head.words)) _
+      (g.S.Style.knows (words_of c.args.report.now.head.words) c.judge_line.new.report.style.now) _ (g.R.LogReader.reader_view c.lines.input.reader.now) (g.R.LogReader.reader_view c.find_line.new.input.reader.now)
       c.lines.input.block c.find_line.new.input.block c.find_line.new.input.text.items c.lines.count
-      c.args.account.now.head.version
-      c.lines.sessions.items c.judge_line.new.sessions.items (length c.args.sessions.now.items) c.lines.account.summary
-      c.judge_line.new.account.summary (all_of g.W.Write.contents c.lines.account.output) (all_of g.W.Write.contents c.find_line.new.output)
-      (all_of g.W.Write.contents c.judge_line.new.account.output)
-      (all_of g.W.Write.contents c.finish-then-is_last.new.account.output) c.finish-then-is_last.result c.lines.invariant.0
-      (subst (λ (f : LineEnd). IsFound (all_of g.W.Write.contents c.lines.account.output) (g.R.LogReader.reader_view c.lines.input.reader.now) c.lines.input.block c.lines.count (Ok f)
+      c.args.report.now.head.version
+      c.lines.sessions.items c.judge_line.new.sessions.items (length c.args.sessions.now.items) c.lines.report.summary
+      c.judge_line.new.report.summary (all_of g.W.Write.contents c.lines.report.output) (all_of g.W.Write.contents c.find_line.new.output)
+      (all_of g.W.Write.contents c.judge_line.new.report.output)
+      (all_of g.W.Write.contents c.finish-then-is_last.new.report.output) c.finish-then-is_last.result c.lines.invariant.0
+      (subst (λ (f : LineEnd). IsFound (all_of g.W.Write.contents c.lines.report.output) (g.R.LogReader.reader_view c.lines.input.reader.now) c.lines.input.block c.lines.count (Ok f)
       (line_at f c.find_line.new.input.block c.find_line.new.input.text.items)
       (g.R.LogReader.reader_view c.find_line.new.input.reader.now) (rest_after f c.find_line.new.input.block))
       (at_last_line c.in_ok-found.found (sym c.is_last.ensures ∙ c.if-is_last.true)) c.in_ok-found.ensures.found)
       c.in_ok-found.ensures.kept
-      (subst (λ (h : Preamble). Judges (g.S.Style.form (words_of h.words)) (g.S.Style.knows (words_of h.words) c.lines.account.style.now)
-      (g.S.Style.knows (words_of h.words) c.judge_line.new.account.style.now) h.version (c.lines.count + 1)
+      (subst (λ (h : Preamble). Judges (g.S.Style.form (words_of h.words)) (g.S.Style.knows (words_of h.words) c.lines.report.style.now)
+      (g.S.Style.knows (words_of h.words) c.judge_line.new.report.style.now) h.version (c.lines.count + 1)
       (states_of c.lines.sessions.items) c.find_line.new.input.text.items
-      (states_of c.judge_line.new.sessions.items) c.lines.account.summary c.judge_line.new.account.summary
-      (all_of g.W.Write.contents c.find_line.new.output) (all_of g.W.Write.contents c.judge_line.new.account.output)) c.lines.invariant.3
-      (subst (λ (l : List ℕ). Judges (g.S.Style.form (words_of c.lines.account.head.words))
-      (g.S.Style.knows (words_of c.lines.account.head.words) c.lines.account.style.now)
-      (g.S.Style.knows (words_of c.lines.account.head.words) c.judge_line.new.account.style.now) c.lines.account.head.version
+      (states_of c.judge_line.new.sessions.items) c.lines.report.summary c.judge_line.new.report.summary
+      (all_of g.W.Write.contents c.find_line.new.output) (all_of g.W.Write.contents c.judge_line.new.report.output)) c.lines.invariant.3
+      (subst (λ (l : List ℕ). Judges (g.S.Style.form (words_of c.lines.report.head.words))
+      (g.S.Style.knows (words_of c.lines.report.head.words) c.lines.report.style.now)
+      (g.S.Style.knows (words_of c.lines.report.head.words) c.judge_line.new.report.style.now) c.lines.report.head.version
       (c.lines.count + 1) (states_of c.lines.sessions.items) l
-      (states_of c.judge_line.new.sessions.items) c.lines.account.summary c.judge_line.new.account.summary
-      (all_of g.W.Write.contents c.find_line.new.output) (all_of g.W.Write.contents c.judge_line.new.account.output))
+      (states_of c.judge_line.new.sessions.items) c.lines.report.summary c.judge_line.new.report.summary
+      (all_of g.W.Write.contents c.find_line.new.output) (all_of g.W.Write.contents c.judge_line.new.report.output))
       (c.line-line.ensures
       ∙ ap (λ (f : LineEnd). line_at f c.find_line.new.input.block c.find_line.new.input.text.items)
       (at_last_line c.in_ok-found.found (sym c.is_last.ensures ∙ c.if-is_last.true)))
       c.in_ok-judge_line.ensures.judged))
       (subst (λ (h : Preamble). IfOk c.finish-then-is_last.result (λ answer. IsFinished (g.S.Style.form (words_of h.words)) None
-      h.version (states_of c.judge_line.new.sessions.items) c.judge_line.new.account.summary
-      (all_of g.W.Write.contents c.judge_line.new.account.output) (all_of g.W.Write.contents c.finish-then-is_last.new.account.output) answer))
+      h.version (states_of c.judge_line.new.sessions.items) c.judge_line.new.report.summary
+      (all_of g.W.Write.contents c.judge_line.new.report.output) (all_of g.W.Write.contents c.finish-then-is_last.new.report.output) answer))
       (c.judge_line.ensures.same_head ∙ c.lines.invariant.3) (rw c.deref-then-is_last.ensures.value at c.finish-then-is_last.ensures.written))) first before starts,
   (
-      unfinished (g.S.Style.form (words_of c.args.account.now.head.words)) (HasFailed g.W.Sink.Fails) g.S.Style.refused (IsReady c.args.account.now.head.limits.config (words_of c.args.account.now.head.words)) _ _ (g.R.LogReader.reader_view c.lines.input.reader.now) (g.R.LogReader.reader_view c.find_line.new.input.reader.now)
+      unfinished (g.S.Style.form (words_of c.args.report.now.head.words)) (HasFailed g.W.Sink.Fails) g.S.Style.refused (IsReady c.args.report.now.head.limits.config (words_of c.args.report.now.head.words)) _ _ (g.R.LogReader.reader_view c.lines.input.reader.now) (g.R.LogReader.reader_view c.find_line.new.input.reader.now)
       c.lines.input.block (rest_after c.in_ok-found.found c.find_line.new.input.block)
       (line_at c.in_ok-found.found c.find_line.new.input.block c.find_line.new.input.text.items) c.lines.count
-      c.args.account.now.head.version
-      c.lines.sessions.items (length c.args.sessions.now.items) c.lines.account.summary
-      (all_of g.W.Write.contents c.lines.account.output) (all_of g.W.Write.contents c.finish-then-is_last.new.account.output)
+      c.args.report.now.head.version
+      c.lines.sessions.items (length c.args.sessions.now.items) c.lines.report.summary
+      (all_of g.W.Write.contents c.lines.report.output) (all_of g.W.Write.contents c.finish-then-is_last.new.report.output)
       c.in_ok-found.found c.finish-then-is_last.result c.lines.invariant.0 c.in_ok-found.ensures.found
       (subst (λ (h : Preamble). IfErr c.finish-then-is_last.result (IsLateFault (g.S.Style.form (words_of h.words)) (HasFailed g.W.Sink.Fails) g.S.Style.refused))
       (c.judge_line.ensures.same_head ∙ c.lines.invariant.3) c.finish-then-is_last.ensures.refused)) first before starts,
@@ -193,33 +193,33 @@ returns-then-is_cut-clause-answered g c = λ first before starts. (
   (
       let cut = c.is_cut.ensures.cut c.if-is_cut.true in
       let last = at_last_line c.in_ok-found.found cut.0 in
-      finished_at_cut (g.S.Style.form (words_of c.args.account.now.head.words)) (IsReady c.args.account.now.head.limits.config (words_of c.args.account.now.head.words)) _ _ (g.R.LogReader.reader_view c.lines.input.reader.now) (g.R.LogReader.reader_view c.find_line.new.input.reader.now)
+      finished_at_cut (g.S.Style.form (words_of c.args.report.now.head.words)) (IsReady c.args.report.now.head.limits.config (words_of c.args.report.now.head.words)) _ _ (g.R.LogReader.reader_view c.lines.input.reader.now) (g.R.LogReader.reader_view c.find_line.new.input.reader.now)
       c.lines.input.block c.find_line.new.input.block c.find_line.new.input.text.items c.lines.count
-      c.args.account.now.head.version
-      c.lines.sessions.items (length c.args.sessions.now.items) c.lines.account.summary
-      (all_of g.W.Write.contents c.lines.account.output) (all_of g.W.Write.contents c.find_line.new.output)
-      (all_of g.W.Write.contents c.finish-then-is_cut.new.account.output) c.finish-then-is_cut.result c.lines.invariant.0
-      (subst (λ (f : LineEnd). IsFound (all_of g.W.Write.contents c.lines.account.output) (g.R.LogReader.reader_view c.lines.input.reader.now) c.lines.input.block c.lines.count (Ok f)
+      c.args.report.now.head.version
+      c.lines.sessions.items (length c.args.sessions.now.items) c.lines.report.summary
+      (all_of g.W.Write.contents c.lines.report.output) (all_of g.W.Write.contents c.find_line.new.output)
+      (all_of g.W.Write.contents c.finish-then-is_cut.new.report.output) c.finish-then-is_cut.result c.lines.invariant.0
+      (subst (λ (f : LineEnd). IsFound (all_of g.W.Write.contents c.lines.report.output) (g.R.LogReader.reader_view c.lines.input.reader.now) c.lines.input.block c.lines.count (Ok f)
       (line_at f c.find_line.new.input.block c.find_line.new.input.text.items)
       (g.R.LogReader.reader_view c.find_line.new.input.reader.now) (rest_after f c.find_line.new.input.block))
       last c.in_ok-found.ensures.found)
       c.in_ok-found.ensures.kept
       (subst (λ (h : Preamble). event_in h.version (length c.lines.sessions.items) c.find_line.new.input.text.items ≡ None)
       c.lines.invariant.3
-      (subst (λ (l : List ℕ). event_in c.lines.account.head.version (length c.lines.sessions.items) l ≡ None)
+      (subst (λ (l : List ℕ). event_in c.lines.report.head.version (length c.lines.sessions.items) l ≡ None)
       (c.line-line.ensures
       ∙ ap (λ (f : LineEnd). line_at f c.find_line.new.input.block c.find_line.new.input.text.items) last) cut.1))
-      (cut.2 (words_of c.args.account.now.head.words))
+      (cut.2 (words_of c.args.report.now.head.words))
       (subst (λ (h : Preamble). IfOk c.finish-then-is_cut.result (λ answer. IsFinished (g.S.Style.form (words_of h.words))
-      (Some (c.lines.count + 1)) h.version (states_of c.lines.sessions.items) c.lines.account.summary
-      (all_of g.W.Write.contents c.find_line.new.output) (all_of g.W.Write.contents c.finish-then-is_cut.new.account.output) answer))
+      (Some (c.lines.count + 1)) h.version (states_of c.lines.sessions.items) c.lines.report.summary
+      (all_of g.W.Write.contents c.find_line.new.output) (all_of g.W.Write.contents c.finish-then-is_cut.new.report.output) answer))
       c.lines.invariant.3 (rw c.deref-then-is_cut.ensures.value at c.finish-then-is_cut.ensures.written))) first before starts,
   (
-      unfinished (g.S.Style.form (words_of c.args.account.now.head.words)) (HasFailed g.W.Sink.Fails) g.S.Style.refused (IsReady c.args.account.now.head.limits.config (words_of c.args.account.now.head.words)) _ _ (g.R.LogReader.reader_view c.lines.input.reader.now) (g.R.LogReader.reader_view c.find_line.new.input.reader.now)
+      unfinished (g.S.Style.form (words_of c.args.report.now.head.words)) (HasFailed g.W.Sink.Fails) g.S.Style.refused (IsReady c.args.report.now.head.limits.config (words_of c.args.report.now.head.words)) _ _ (g.R.LogReader.reader_view c.lines.input.reader.now) (g.R.LogReader.reader_view c.find_line.new.input.reader.now)
       c.lines.input.block (rest_after c.in_ok-found.found c.find_line.new.input.block)
       (line_at c.in_ok-found.found c.find_line.new.input.block c.find_line.new.input.text.items) c.lines.count
-      c.args.account.now.head.version c.lines.sessions.items (length c.args.sessions.now.items) c.lines.account.summary
-      (all_of g.W.Write.contents c.lines.account.output) (all_of g.W.Write.contents c.finish-then-is_cut.new.account.output)
+      c.args.report.now.head.version c.lines.sessions.items (length c.args.sessions.now.items) c.lines.report.summary
+      (all_of g.W.Write.contents c.lines.report.output) (all_of g.W.Write.contents c.finish-then-is_cut.new.report.output)
       c.in_ok-found.found c.finish-then-is_cut.result c.lines.invariant.0 c.in_ok-found.ensures.found
       (subst (λ (h : Preamble). IfErr c.finish-then-is_cut.result (IsLateFault (g.S.Style.form (words_of h.words)) (HasFailed g.W.Sink.Fails) g.S.Style.refused)) c.lines.invariant.3
       c.finish-then-is_cut.ensures.refused)) first before starts,
@@ -227,22 +227,22 @@ returns-then-is_cut-clause-answered g c = λ first before starts. (
 
 pub finish-requires-then-is_cut-clause-ready : goal.finish-requires-then-is_cut-clause-ready
 finish-requires-then-is_cut-clause-ready g c =
-    subst (λ (l : List SessionView). All (IsReady c.lines.account.head.limits.config (words_of c.lines.account.head.words)) l)
+    subst (λ (l : List SessionView). All (IsReady c.lines.report.head.limits.config (words_of c.lines.report.head.words)) l)
     (sym c.deref-then-is_cut.ensures.value)
     (subst (λ (h : Preamble). All (IsReady h.limits.config (words_of h.words)) c.lines.sessions.items)
     (sym c.lines.invariant.3) c.lines.invariant.0.ready)
 
 pub finish-requires-clause-ready : goal.finish-requires-clause-ready
 finish-requires-clause-ready g c =
-    subst (λ (l : List SessionView). All (IsReady c.lines.account.head.limits.config (words_of c.lines.account.head.words)) l)
+    subst (λ (l : List SessionView). All (IsReady c.lines.report.head.limits.config (words_of c.lines.report.head.words)) l)
     (sym c.deref.ensures.value)
     (subst (λ (h : Preamble). All (IsReady h.limits.config (words_of h.words)) c.lines.sessions.items)
     (sym c.lines.invariant.3) c.lines.invariant.0.ready)
 
 pub finish-requires-then-is_last-clause-ready : goal.finish-requires-then-is_last-clause-ready
 finish-requires-then-is_last-clause-ready g c =
-    subst (λ (l : List SessionView). All (IsReady c.judge_line.new.account.head.limits.config
-    (words_of c.judge_line.new.account.head.words)) l) (sym c.deref-then-is_last.ensures.value)
+    subst (λ (l : List SessionView). All (IsReady c.judge_line.new.report.head.limits.config
+    (words_of c.judge_line.new.report.head.words)) l) (sym c.deref-then-is_last.ensures.value)
     (subst (λ (h : Preamble). All (IsReady h.limits.config (words_of h.words)) c.judge_line.new.sessions.items)
     (sym c.judge_line.ensures.same_head) c.judge_line.ensures.ready)
 
@@ -256,31 +256,31 @@ lines-preserved g c =
     let now = g.R.LogReader.reader_view c.lines.input.reader.now in
     let new = g.R.LogReader.reader_view c.find_line.new.input.reader.now in
     let line = line_at c.in_ok-found.found c.find_line.new.input.block c.find_line.new.input.text.items in (
-      plays_more (g.S.Style.form (words_of c.args.account.now.head.words)) (IsReady c.args.account.now.head.limits.config (words_of c.args.account.now.head.words)) _
-          (g.S.Style.knows (words_of c.args.account.now.head.words) c.judge_line.new.account.style.now)
-          (words_of c.args.account.now.head.words) (g.met.S.Style.lawful (words_of c.args.account.now.head.words)) _ now new c.lines.input.block c.pass_line.new.block line c.lines.count
-          c.args.account.now.head.version
+      plays_more (g.S.Style.form (words_of c.args.report.now.head.words)) (IsReady c.args.report.now.head.limits.config (words_of c.args.report.now.head.words)) _
+          (g.S.Style.knows (words_of c.args.report.now.head.words) c.judge_line.new.report.style.now)
+          (words_of c.args.report.now.head.words) (g.met.S.Style.lawful (words_of c.args.report.now.head.words)) _ now new c.lines.input.block c.pass_line.new.block line c.lines.count
+          c.args.report.now.head.version
           c.lines.sessions.items c.judge_line.new.sessions.items (length c.args.sessions.now.items)
-          c.lines.account.summary c.judge_line.new.account.summary (all_of g.W.Write.contents c.lines.account.output)
-          (all_of g.W.Write.contents c.find_line.new.output) (all_of g.W.Write.contents c.judge_line.new.account.output) c.lines.invariant.0
-          (subst (λ (rest : List ℕ). IsFound (all_of g.W.Write.contents c.lines.account.output) now c.lines.input.block c.lines.count (Ok Line) line new rest)
+          c.lines.report.summary c.judge_line.new.report.summary (all_of g.W.Write.contents c.lines.report.output)
+          (all_of g.W.Write.contents c.find_line.new.output) (all_of g.W.Write.contents c.judge_line.new.report.output) c.lines.invariant.0
+          (subst (λ (rest : List ℕ). IsFound (all_of g.W.Write.contents c.lines.report.output) now c.lines.input.block c.lines.count (Ok Line) line new rest)
           (sym c.pass_line.ensures)
-          (as_line (all_of g.W.Write.contents c.lines.account.output) now new c.lines.input.block (rest_after c.in_ok-found.found c.find_line.new.input.block) line c.lines.count
+          (as_line (all_of g.W.Write.contents c.lines.report.output) now new c.lines.input.block (rest_after c.in_ok-found.found c.find_line.new.input.block) line c.lines.count
           c.in_ok-found.found (sym c.is_end.ensures ∙ c.if-is_end.false) (sym c.is_last.ensures ∙ c.if-is_last.false)
           c.in_ok-found.ensures.found))
           c.in_ok-found.ensures.kept
-          (subst (λ (h : Preamble). Judges (g.S.Style.form (words_of h.words)) (g.S.Style.knows (words_of h.words) c.lines.account.style.now)
-          (g.S.Style.knows (words_of h.words) c.judge_line.new.account.style.now) h.version (c.lines.count + 1)
+          (subst (λ (h : Preamble). Judges (g.S.Style.form (words_of h.words)) (g.S.Style.knows (words_of h.words) c.lines.report.style.now)
+          (g.S.Style.knows (words_of h.words) c.judge_line.new.report.style.now) h.version (c.lines.count + 1)
           (states_of c.lines.sessions.items) line
-          (states_of c.judge_line.new.sessions.items) c.lines.account.summary c.judge_line.new.account.summary
-          (all_of g.W.Write.contents c.find_line.new.output) (all_of g.W.Write.contents c.judge_line.new.account.output)) c.lines.invariant.3
-          (subst (λ (l : List ℕ). Judges (g.S.Style.form (words_of c.lines.account.head.words))
-          (g.S.Style.knows (words_of c.lines.account.head.words) c.lines.account.style.now)
-          (g.S.Style.knows (words_of c.lines.account.head.words) c.judge_line.new.account.style.now) c.lines.account.head.version
+          (states_of c.judge_line.new.sessions.items) c.lines.report.summary c.judge_line.new.report.summary
+          (all_of g.W.Write.contents c.find_line.new.output) (all_of g.W.Write.contents c.judge_line.new.report.output)) c.lines.invariant.3
+          (subst (λ (l : List ℕ). Judges (g.S.Style.form (words_of c.lines.report.head.words))
+          (g.S.Style.knows (words_of c.lines.report.head.words) c.lines.report.style.now)
+          (g.S.Style.knows (words_of c.lines.report.head.words) c.judge_line.new.report.style.now) c.lines.report.head.version
           (c.lines.count + 1) (states_of c.lines.sessions.items) l
-          (states_of c.judge_line.new.sessions.items) c.lines.account.summary c.judge_line.new.account.summary
+          (states_of c.judge_line.new.sessions.items) c.lines.report.summary c.judge_line.new.report.summary
           (all_of g.W.Write.contents c.find_line.new.output)
-          (all_of g.W.Write.contents c.judge_line.new.account.output))
+          (all_of g.W.Write.contents c.judge_line.new.report.output))
           c.line-line.ensures c.in_ok-judge_line.ensures.judged))
           c.judge_line.ensures.few
           (subst (λ (h : Preamble). All (IsReady h.limits.config (words_of h.words)) c.judge_line.new.sessions.items)
@@ -341,7 +341,7 @@ judge_line-requires-clause-few g c = subst (λ (n : ℕ). n ≤ most_sessions) (
 
 pub judge_line-requires-clause-room : goal.judge_line-requires-clause-room
 judge_line-requires-clause-room g c =
-    room_left c.lines.count c.lines.account.summary c.lines.invariant.0.few c.lines.invariant.0.fits
+    room_left c.lines.count c.lines.report.summary c.lines.invariant.0.few c.lines.invariant.0.fits
 
 pub returns-in_err-judge_line-clause-same_reader : goal.returns-in_err-judge_line-clause-same_reader
 returns-in_err-judge_line-clause-same_reader g c = c.find_line.ensures.same_reader ∙ c.lines.invariant.1

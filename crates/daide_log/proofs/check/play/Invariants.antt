@@ -6,15 +6,15 @@ use Rattle.daide_log.proofs.check.play.Given as goal
 -- all lines so far are reported
 abbrev pub invariant-lines : goal.invariant-lines
 invariant-lines g l =
-    Plays (g.S.Style.form (words_of l.fn.account.head.words))
-    (IsReady l.fn.account.head.limits.config (words_of l.fn.account.head.words))
-    (g.S.Style.knows (words_of l.fn.account.head.words) l.account.style.now)
-    (StartsReport (g.S.Style.form (words_of l.fn.account.head.words)) (g.R.LogReader.reader_view l.fn.input.reader.now) l.fn.input.block
-    l.lines l.fn.account.head.version (states_of l.fn.sessions.items) (all_of g.W.Write.contents l.fn.account.output))
-    (g.R.LogReader.reader_view l.input.reader.now) l.input.block l.count l.fn.account.head.version l.sessions.items
-    (length l.fn.sessions.items) l.account.summary (all_of g.W.Write.contents l.account.output)
-    × IsSameReader l.fn.input l.input × IsSameWriter l.fn.account.output l.account.output
-    × (l.account.head ≡ l.fn.account.head)
+    Plays (g.S.Style.form (words_of l.fn.report.head.words))
+    (IsReady l.fn.report.head.limits.config (words_of l.fn.report.head.words))
+    (g.S.Style.knows (words_of l.fn.report.head.words) l.report.style.now)
+    (StartsReport (g.S.Style.form (words_of l.fn.report.head.words)) (g.R.LogReader.reader_view l.fn.input.reader.now) l.fn.input.block
+    l.lines l.fn.report.head.version (states_of l.fn.sessions.items) (all_of g.W.Write.contents l.fn.report.output))
+    (g.R.LogReader.reader_view l.input.reader.now) l.input.block l.count l.fn.report.head.version l.sessions.items
+    (length l.fn.sessions.items) l.report.summary (all_of g.W.Write.contents l.report.output)
+    × IsSameReader l.fn.input l.input × IsSameWriter l.fn.report.output l.report.output
+    × (l.report.head ≡ l.fn.report.head)
 
 -- the number of lines that may still follow
 abbrev pub decreases-lines : goal.decreases-lines

@@ -9,7 +9,7 @@ pub returns : goal.returns
 returns g c = λ number.
     let session = c.args.session.now in
     let side = c.args.side in
-    part_found number side session.state.limits.cap (is_at_fault side (ending_in session.state.phase)) (holding session side).held
+    part_found number side session.state.limits.cap (is_at_fault side (ending_in session.state.phase)) (holding session side).frame_bytes
     (coming session.state side).pending _ _ c.is_at_fault-at_fault.result
     c.announced_by-announced.result c.part_in.result
     (ap length c.header-header.ensures.value) (ap length c.body-body.ensures.value)

@@ -10,7 +10,7 @@ returns-in-Received-clause-judged g c =
 
 pub returns-in-Received-clause-refused : goal.returns-in-Received-clause-refused
 returns-in-Received-clause-refused g c =
-    refused_late (HasFailed g.W.Sink.Fails) g.S.Style.refused (g.S.Style.form (words_of c.args.account.now.head.words)) c.feed_all.result c.as_fault.result c.as_fault.ensures
+    refused_late (HasFailed g.W.Sink.Fails) g.S.Style.refused (g.S.Style.form (words_of c.args.report.now.head.words)) c.feed_all.result c.as_fault.result c.as_fault.ensures
     c.feed_all.ensures.refused
 
 pub apply-side-requires-clause-bare : goal.apply-side-requires-clause-bare
@@ -34,15 +34,15 @@ returns-clause-judged g c =
     let events = events_of_line (event_reported bytes c.args.reported) in
     as_reported c.report_move.result c.as_fault-2.result _ c.as_fault-2.ensures
     (on_ok c.report_move.result _ _ c.report_move.ensures.reported
-    (λ reports. subst (λ (side : Side). ReportsEvents (g.S.Style.form (words_of c.args.account.now.head.words))
-    (g.S.Style.knows (words_of c.args.account.now.head.words) c.args.account.now.style.now)
-    (g.S.Style.knows (words_of c.args.account.now.head.words) c.report_move.new.account.style.now) c.args.source side
-    c.args.session.now.state events c.report_move.new.session.state c.args.account.now.summary
-    c.report_move.new.account.summary (all_of g.W.Write.contents c.args.account.now.output)
-    (all_of g.W.Write.contents c.report_move.new.account.output)) (c.apply-side.ensures.side bytes)
+    (λ reports. subst (λ (side : Side). ReportsEvents (g.S.Style.form (words_of c.args.report.now.head.words))
+    (g.S.Style.knows (words_of c.args.report.now.head.words) c.args.report.now.style.now)
+    (g.S.Style.knows (words_of c.args.report.now.head.words) c.report_move.new.report.style.now) c.args.source side
+    c.args.session.now.state events c.report_move.new.session.state c.args.report.now.summary
+    c.report_move.new.report.summary (all_of g.W.Write.contents c.args.report.now.output)
+    (all_of g.W.Write.contents c.report_move.new.report.output)) (c.apply-side.ensures.side bytes)
     (reports c.args.session.now events (c.apply-side.ensures.moves bytes))))
 
 pub returns-clause-refused : goal.returns-clause-refused
 returns-clause-refused g c =
-    refused_late (HasFailed g.W.Sink.Fails) g.S.Style.refused (g.S.Style.form (words_of c.args.account.now.head.words)) c.report_move.result c.as_fault-2.result
+    refused_late (HasFailed g.W.Sink.Fails) g.S.Style.refused (g.S.Style.form (words_of c.args.report.now.head.words)) c.report_move.result c.as_fault-2.result
     c.as_fault-2.ensures c.report_move.ensures.refused

@@ -9,41 +9,41 @@ returns-in-None-clause-judged g c = tt
 
 pub returns-in-Some-Quiet-clause-judged : goal.returns-in-Some-Quiet-clause-judged
 returns-in-Some-Quiet-clause-judged g c =
-    let words = words_of c.args.account.now.head.words in
+    let words = words_of c.args.report.now.head.words in
     let count : length c.args.sessions.now.items ≡ c.len-count.result =
     omega (arith, c.len-count.ensures, c.args.sessions.now.ok.0) in
     on_ok c.quote.result _ _ c.quote.ensures.text
     (λ t context knew.
-    let judged = subst (λ (s : Summary). Judges (g.S.Style.form words) (g.S.Style.knows words c.args.account.now.style.now)
-    (g.S.Style.knows words c.args.account.now.style.now) c.args.origin.version c.args.origin.line
-    (states_of c.args.sessions.now.items) c.args.line.now (states_of c.args.sessions.now.items) c.args.account.now.summary s
-    (all_of g.W.Write.contents c.args.account.now.output) (all_of g.W.Write.contents c.quote.new.account.output))
+    let judged = subst (λ (s : Summary). Judges (g.S.Style.form words) (g.S.Style.knows words c.args.report.now.style.now)
+    (g.S.Style.knows words c.args.report.now.style.now) c.args.origin.version c.args.origin.line
+    (states_of c.args.sessions.now.items) c.args.line.now (states_of c.args.sessions.now.items) c.args.report.now.summary s
+    (all_of g.W.Write.contents c.args.report.now.output) (all_of g.W.Write.contents c.quote.new.report.output))
     (sym c.quote.ensures.same_summary)
-    (nothing_judged (g.S.Style.form words) (g.S.Style.knows words c.args.account.now.style.now) words
+    (nothing_judged (g.S.Style.form words) (g.S.Style.knows words c.args.report.now.style.now) words
     (g.met.S.Style.lawful words) c.args.origin.version c.args.origin.line c.args.line.now c.args.sessions.now.items
-    c.args.account.now.summary (all_of g.W.Write.contents c.args.account.now.output)
-    (all_of g.W.Write.contents c.quote.new.account.output) t.0
+    c.args.report.now.summary (all_of g.W.Write.contents c.args.report.now.output)
+    (all_of g.W.Write.contents c.quote.new.report.output) t.0
     (ap (λ (n : ℕ). event_in c.args.origin.version n c.args.line.now) count
     ∙ sym (rw c.in-Some-Quiet.field-0-is at c.in-Some-Quiet.ensures.reported)) t.1 t.2) context knew in
     (judged.0, judged.1, judged.2, judged.3, c.quote.ensures.known _ judged.4))
 
 pub returns-in_ok-quote-in-Some-Of-clause-judged : goal.returns-in_ok-quote-in-Some-Of-clause-judged
 returns-in_ok-quote-in-Some-Of-clause-judged g c =
-    let words = words_of c.args.account.now.head.words in
+    let words = words_of c.args.report.now.head.words in
     let count : length c.args.sessions.now.items ≡ c.len-count.result =
     omega (arith, c.len-count.ensures, c.args.sessions.now.ok.0) in
     let within = rw c.in-Some-Of.field-0-is at c.in-Some-Of.ensures.within in
     let quoted = c.in_ok-quote-in-Some-Of.ensures.text in
     on_ok c.judge.result _ _ c.judge.ensures.judged
     (λ reported.
-    session_judged (g.S.Style.form words) (g.S.Style.knows words c.args.account.now.style.now)
-    (g.S.Style.knows words c.judge.new.account.style.now) words (g.met.S.Style.lawful words) c.args.origin.version c.args.origin.line
+    session_judged (g.S.Style.form words) (g.S.Style.knows words c.args.report.now.style.now)
+    (g.S.Style.knows words c.judge.new.report.style.now) words (g.met.S.Style.lawful words) c.args.origin.version c.args.origin.line
     c.in-Some-Of.session
     (event_reported c.read_reported.new.bytes c.in-Some-Of.reported) c.args.line.now c.args.sessions.now.items c.index_mut.result.now
-    c.judge.new.session c.source-source.result c.args.account.now.summary c.judge.new.account.summary
-    (all_of g.W.Write.contents c.args.account.now.output)
-    (all_of g.W.Write.contents c.quote-in-Some-Of.new.account.output)
-    (all_of g.W.Write.contents c.judge.new.account.output) quoted.0
+    c.judge.new.session c.source-source.result c.args.report.now.summary c.judge.new.report.summary
+    (all_of g.W.Write.contents c.args.report.now.output)
+    (all_of g.W.Write.contents c.quote-in-Some-Of.new.report.output)
+    (all_of g.W.Write.contents c.judge.new.report.output) quoted.0
     (ap (λ (n : ℕ). event_in c.args.origin.version n c.args.line.now) count
     ∙ sym (rw c.in-Some-Of.field-0-is at c.in-Some-Of.ensures.reported))
     within.0 (omega (arith, within.1, count)) c.index_mut.ensures.value c.source-source.ensures quoted.1 quoted.2
@@ -57,7 +57,7 @@ pub returns-in-None-clause-ready : goal.returns-in-None-clause-ready
 returns-in-None-clause-ready g c = c.requires.ready
 
 pub returns-in-None-clause-few : goal.returns-in-None-clause-few
-returns-in-None-clause-few g c = no_more 1024 c.args.account.now.summary
+returns-in-None-clause-few g c = no_more 1024 c.args.report.now.summary
 
 pub returns-in-None-clause-same_head : goal.returns-in-None-clause-same_head
 returns-in-None-clause-same_head g c = refl
@@ -70,7 +70,7 @@ returns-in-Some-Quiet-clause-ready g c = c.requires.ready
 
 pub returns-in-Some-Quiet-clause-few : goal.returns-in-Some-Quiet-clause-few
 returns-in-Some-Quiet-clause-few g c =
-    rw c.quote.ensures.same_summary (no_more 1024 c.args.account.now.summary)
+    rw c.quote.ensures.same_summary (no_more 1024 c.args.report.now.summary)
 
 pub returns-in-Some-Quiet-clause-same_head : goal.returns-in-Some-Quiet-clause-same_head
 returns-in-Some-Quiet-clause-same_head g c = c.quote.ensures.same_head
@@ -86,7 +86,7 @@ returns-in_err-quote-in-Some-Of-clause-ready g c = c.requires.ready
 
 pub returns-in_err-quote-in-Some-Of-clause-few : goal.returns-in_err-quote-in-Some-Of-clause-few
 returns-in_err-quote-in-Some-Of-clause-few g c =
-    rw c.quote-in-Some-Of.ensures.same_summary (no_more 1024 c.args.account.now.summary)
+    rw c.quote-in-Some-Of.ensures.same_summary (no_more 1024 c.args.report.now.summary)
 
 pub returns-in_err-quote-in-Some-Of-clause-same_head : goal.returns-in_err-quote-in-Some-Of-clause-same_head
 returns-in_err-quote-in-Some-Of-clause-same_head g c = c.quote-in-Some-Of.ensures.same_head

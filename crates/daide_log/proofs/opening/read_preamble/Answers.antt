@@ -13,7 +13,7 @@ lines-init g c =
     let first = all_of g.W.Write.contents c.args.output.now in (
       record {
         has_read = λ words.
-            subst (λ (held : List ℕ). HasRead (g.S.Style.form words) first old old held 0 [] (Opening Unnamed)) (sym c.requires)
+            subst (λ (buffered : List ℕ). HasRead (g.S.Style.form words) first old old buffered 0 [] (Opening Unnamed)) (sym c.requires)
             (nothing_read (g.S.Style.form words) first old);
         held_well = tt;
         fits = omega arith;

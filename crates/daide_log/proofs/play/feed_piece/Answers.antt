@@ -5,27 +5,27 @@ use Rattle.daide_log.proofs.play.feed_piece.Goals as goal
 
 pub returns-in-Nothing-clause-ready : goal.returns-in-Nothing-clause-ready
 returns-in-Nothing-clause-ready g c =
-    ready_after c.args.account.now.head.limits.config (words_of c.args.account.now.head.words) c.args.session.now
+    ready_after c.args.report.now.head.limits.config (words_of c.args.report.now.head.words) c.args.session.now
     c.feed-reported.new.self c.feed-reported.new.self (bytes_come c.args.side c.args.piece.now) c.feed-reported.result c.requires.ready
     c.feed-reported.ensures.goes refl
     (idle_still c.args.session.now c.feed-reported.new.self c.args.side c.args.piece.now c.feed-reported.result c.requires.few
     c.feed-reported.ensures.goes c.requires.ready.idle c.in-Nothing.is)
 
 pub returns-in-Nothing-clause-few : goal.returns-in-Nothing-clause-few
-returns-in-Nothing-clause-few g c = no_more 1 c.args.account.now.summary
+returns-in-Nothing-clause-few g c = no_more 1 c.args.report.now.summary
 
 pub returns-in-Nothing-clause-reported : goal.returns-in-Nothing-clause-reported
 returns-in-Nothing-clause-reported g c =
-    let words = words_of c.args.account.now.head.words in
-    tells_none (g.S.Style.form words) (g.S.Style.knows words c.args.account.now.style.now) words (g.met.S.Style.lawful words) c.args.source c.args.side c.args.session.now.state
-    c.feed-reported.new.self.state (bytes_come c.args.side c.args.piece.now) c.args.account.now.summary
-    (all_of g.W.Write.contents c.args.account.now.output)
+    let words = words_of c.args.report.now.head.words in
+    tells_none (g.S.Style.form words) (g.S.Style.knows words c.args.report.now.style.now) words (g.met.S.Style.lawful words) c.args.source c.args.side c.args.session.now.state
+    c.feed-reported.new.self.state (bytes_come c.args.side c.args.piece.now) c.args.report.now.summary
+    (all_of g.W.Write.contents c.args.report.now.output)
     (piece_silent c.args.session.now c.feed-reported.new.self c.args.side c.args.piece.now c.feed-reported.result c.requires.few
     c.feed-reported.ensures.goes c.in-Nothing.is)
 
 pub report_move-requires-clause-under : goal.report_move-requires-clause-under
 report_move-requires-clause-under g c =
-    under_after c.args.account.now.head.limits.config (words_of c.args.account.now.head.words) c.args.session.now
+    under_after c.args.report.now.head.limits.config (words_of c.args.report.now.head.words) c.args.session.now
     c.feed-reported.new.self (bytes_come c.args.side c.args.piece.now) c.feed-reported.result c.requires.ready.under
     c.feed-reported.ensures.goes
 

@@ -4,13 +4,13 @@ use Rattle.daide_log.proofs.play.feed_pieces.Given as goal
 
 abbrev pub invariant-loop-session : goal.invariant-loop-session
 invariant-loop-session g l =
-    HasFed (g.S.Style.form (words_of l.fn.account.head.words))
-    (g.S.Style.knows (words_of l.fn.account.head.words) l.fn.account.style.now)
-    (g.S.Style.knows (words_of l.fn.account.head.words) l.account.style.now) l.fn.account.head.limits.config
-    (words_of l.fn.account.head.words) l.source l.side l.fn.bytes l.rest l.fn.session.state l.session
-    l.fn.account.summary l.account.summary (all_of g.W.Write.contents l.fn.account.output)
-    (all_of g.W.Write.contents l.account.output) × IsSameWriter l.fn.account.output l.account.output
-    × (l.account.head ≡ l.fn.account.head)
+    HasFed (g.S.Style.form (words_of l.fn.report.head.words))
+    (g.S.Style.knows (words_of l.fn.report.head.words) l.fn.report.style.now)
+    (g.S.Style.knows (words_of l.fn.report.head.words) l.report.style.now) l.fn.report.head.limits.config
+    (words_of l.fn.report.head.words) l.source l.side l.fn.bytes l.rest l.fn.session.state l.session
+    l.fn.report.summary l.report.summary (all_of g.W.Write.contents l.fn.report.output)
+    (all_of g.W.Write.contents l.report.output) × IsSameWriter l.fn.report.output l.report.output
+    × (l.report.head ≡ l.fn.report.head)
 
 abbrev pub decreases-loop-session : goal.decreases-loop-session
 decreases-loop-session g l = length l.rest

@@ -6,6 +6,6 @@ use Rattle.daide_log_lines.proofs.lines.held_line.Goals as goal
 
 pub returns : goal.returns
 returns c =
-    subst (λ (l : List ℕ). IfSome c.line_end.result (IsHeldLine l c.args.count)) c.as_slice-held.ensures.value
-    (held_whole c.as_slice-held.result.now c.min.result c.args.count c.line_end.result (omega (arith, c.min.ensures))
-    (omega (arith, c.min.ensures)) (omega arith) c.as_slice-held.ensures.fits c.line_end.ensures)
+    subst (λ (l : List ℕ). IfSome c.line_end.result (IsHeldLine l c.args.count)) c.as_slice-buffered.ensures.value
+    (held_whole c.as_slice-buffered.result.now c.min.result c.args.count c.line_end.result (omega (arith, c.min.ensures))
+    (omega (arith, c.min.ensures)) (omega arith) c.as_slice-buffered.ensures.fits c.line_end.ensures)

@@ -8,11 +8,11 @@ returns-in-Some c =
     let grown = c.put.ensures in
     let full = c.len-room.ensures.fits in
     subst (λ (l : List ℕ). Scans l c.args.text.now.items true c.skip.new.self c.put.new.self.items)
-    c.as_slice-held.ensures.value
-    (line_scanned c.as_slice-held.result.now c.args.text.now.items c.min.result c.in-Some.n c.skip.new.self
+    c.as_slice-buffered.ensures.value
+    (line_scanned c.as_slice-buffered.result.now c.args.text.now.items c.min.result c.in-Some.n c.skip.new.self
     c.put.new.self.items (omega (arith, c.min.ensures))
     (omega (arith, c.min.ensures, c.len-room.ensures.value, full)) c.in-Some.ensures.0 c.in-Some.ensures.1 c.in-Some.ensures.2
-    (c.skip.ensures ∙ ap (drop (c.in-Some.n + 1)) (sym c.as_slice-held.ensures.value)) grown c.as_slice-held.ensures.fits)
+    (c.skip.ensures ∙ ap (drop (c.in-Some.n + 1)) (sym c.as_slice-buffered.ensures.value)) grown c.as_slice-buffered.ensures.fits)
 
 pub returns-in-None : goal.returns-in-None
 returns-in-None c =
@@ -20,8 +20,8 @@ returns-in-None c =
     let full = c.len-room.ensures.fits in
     subst (λ (l : List ℕ).
     Scans l c.args.text.now.items false c.skip-in-None.new.self c.put-in-None.new.self.items)
-    c.as_slice-held.ensures.value
-    (part_scanned c.as_slice-held.result.now c.args.text.now.items c.min.result c.skip-in-None.new.self
+    c.as_slice-buffered.ensures.value
+    (part_scanned c.as_slice-buffered.result.now c.args.text.now.items c.min.result c.skip-in-None.new.self
     c.put-in-None.new.self.items (omega (arith, c.min.ensures))
     (λ less. omega (arith, c.min.ensures, c.len-room.ensures.value, full)) c.in-None.ensures
-    (c.skip-in-None.ensures ∙ ap (drop _) (sym c.as_slice-held.ensures.value)) grown c.as_slice-held.ensures.fits)
+    (c.skip-in-None.ensures ∙ ap (drop _) (sym c.as_slice-buffered.ensures.value)) grown c.as_slice-buffered.ensures.fits)

@@ -32,9 +32,9 @@ loop-first-init g c =
       more = end_moves (length c.args.body.now) c.args.start.read (c.args.max_depth - c.args.start.unclosed)
           c.min-end.result c.min-end.ensures c.requires.read (some_left _ _ c.requires.deep);
       shallow = omega arith;
-      front = c.at-held.ensures.front;
-      rest = c.at-held.ensures.rest;
-      class = c.known-known.ensures ∙ ap known_class c.token.ensures;
+      front = c.at-loaded.ensures.front;
+      rest = c.at-loaded.ensures.rest;
+      class = c.known-column.ensures ∙ ap known_class c.token.ensures;
       mid = begun g.T.Predict g.met.T.Predict.laws c.args.max_depth c.args.body.now c.args.start.read c.args.start.unclosed old
           c.args.start.read c.args.start.unclosed c.min-end.result old
           (at_start g.T.Predict g.met.T.Predict.laws c.args.max_depth c.args.body.now c.args.start.read c.args.start.unclosed old
@@ -61,7 +61,7 @@ returns-then-next-last-clause-reads g c =
     let rest : drop i toks ≡ t ∷ drop (i + 1) toks = inv.rest ∙ ap (λ (k : ℕ). k ∷ drop (i + 1) toks) (sym same) in
     let class = inv.class ∙ ap known_class (sym same) in
     let counted : count_one (is_bra t) (is_ket t) (Some opened) ≡ open_count ((opened + c.bracket_step-opened.result) % 65536) =
-    counted_by_step opened t c.loop-first.known class low
+    counted_by_step opened t c.loop-first.column class low
     ∙ ap (λ (k : ℕ). open_count ((opened + k) % 65536)) (sym c.bracket_step-opened.ensures) in
     let cells = c.loop-first.cells in
     let s = c.loop-first.symbol in
@@ -102,7 +102,7 @@ returns-then-next-last-2-clause-reads g c =
     let rest : drop i toks ≡ t ∷ drop (i + 1) toks = inv.rest ∙ ap (λ (k : ℕ). k ∷ drop (i + 1) toks) (sym same) in
     let class = inv.class ∙ ap known_class (sym same) in
     let counted : count_one (is_bra t) (is_ket t) (Some opened) ≡ open_count ((opened + c.bracket_step-opened-then-is_take.result) % 65536) =
-    counted_by_step opened t c.loop-first.known class low
+    counted_by_step opened t c.loop-first.column class low
     ∙ ap (λ (k : ℕ). open_count ((opened + k) % 65536)) (sym c.bracket_step-opened-then-is_take.ensures) in
     let cells = c.loop-first.cells in
     let s = c.loop-first.symbol in
@@ -143,7 +143,7 @@ loop-first-preserved-in-Some g c =
     let rest : drop i toks ≡ t ∷ drop (i + 1) toks = inv.rest ∙ ap (λ (k : ℕ). k ∷ drop (i + 1) toks) (sym same) in
     let class = inv.class ∙ ap known_class (sym same) in
     let counted : count_one (is_bra t) (is_ket t) (Some opened) ≡ open_count ((opened + c.bracket_step-opened.result) % 65536) =
-    counted_by_step opened t c.loop-first.known class low
+    counted_by_step opened t c.loop-first.column class low
     ∙ ap (λ (k : ℕ). open_count ((opened + k) % 65536)) (sym c.bracket_step-opened.ensures) in
     let cells = c.loop-first.cells in
     let s = c.loop-first.symbol in
@@ -167,9 +167,9 @@ loop-first-preserved-in-Some g c =
       from = from_next c.args.start.read i inv.from;
       more = not_last i end inv.more c.if-next-last.false;
       shallow = shallow_next opened end i c.args.max_depth inv.shallow inv.more _ next.1;
-      front = c.at-held-in-Some.ensures.front;
-      rest = c.at-held-in-Some.ensures.rest;
-      class = c.known-known-in-Some.ensures ∙ ap known_class c.token-in-Some.ensures;
+      front = c.at-loaded-in-Some.ensures.front;
+      rest = c.at-loaded-in-Some.ensures.rest;
+      class = c.known-column-in-Some.ensures ∙ ap known_class c.token-in-Some.ensures;
       mid = next.0;
     }
 
@@ -233,7 +233,7 @@ returns-in_default-follow_word-clause-reads g c =
     let rest : drop i toks ≡ t ∷ drop (i + 1) toks = inv.rest ∙ ap (λ (k : ℕ). k ∷ drop (i + 1) toks) (sym same) in
     let class = inv.class ∙ ap known_class (sym same) in
     let counted : count_one (is_bra t) (is_ket t) (Some opened) ≡ open_count ((opened + c.bracket_step-opened-then-is_stop.result) % 65536) =
-    counted_by_step opened t c.loop-first.known class low
+    counted_by_step opened t c.loop-first.column class low
     ∙ ap (λ (k : ℕ). open_count ((opened + k) % 65536)) (sym c.bracket_step-opened-then-is_stop.ensures) in
     let whole = top_whole c.loop-first.left g.row.N inv.some inv.inside in
     let stack : reverse (take (c.loop-first.left - 1 + 1) c.loop-first.cells) ≡ now.stack =
@@ -282,7 +282,7 @@ returns-then-next-last-3-clause-reads g c =
     let rest : drop i toks ≡ t ∷ drop (i + 1) toks = inv.rest ∙ ap (λ (k : ℕ). k ∷ drop (i + 1) toks) (sym same) in
     let class = inv.class ∙ ap known_class (sym same) in
     let counted : count_one (is_bra t) (is_ket t) (Some opened) ≡ open_count ((opened + c.bracket_step-opened-then-is_stop.result) % 65536) =
-    counted_by_step opened t c.loop-first.known class low
+    counted_by_step opened t c.loop-first.column class low
     ∙ ap (λ (k : ℕ). open_count ((opened + k) % 65536)) (sym c.bracket_step-opened-then-is_stop.ensures) in
     let whole = top_whole c.loop-first.left g.row.N inv.some inv.inside in
     let stack : reverse (take (c.loop-first.left - 1 + 1) c.loop-first.cells) ≡ now.stack =
@@ -337,7 +337,7 @@ loop-first-preserved g c =
           let rest : drop i toks ≡ t ∷ drop (i + 1) toks = inv.rest ∙ ap (λ (k : ℕ). k ∷ drop (i + 1) toks) (sym same) in
           let class = inv.class ∙ ap known_class (sym same) in
           let counted : count_one (is_bra t) (is_ket t) (Some opened) ≡ open_count ((opened + w.bracket_step-opened-then-is_take.result) % 65536) =
-          counted_by_step opened t c.loop-first.known class low
+          counted_by_step opened t c.loop-first.column class low
           ∙ ap (λ (k : ℕ). open_count ((opened + k) % 65536)) (sym w.bracket_step-opened-then-is_take.ensures) in
           let cells = c.loop-first.cells in
           let s = c.loop-first.symbol in
@@ -358,10 +358,10 @@ loop-first-preserved g c =
             from = rw w.next-is (from_next c.args.start.read i inv.from);
             more = rw w.next-is (not_last i end inv.more w.if-next-last-2.false);
             shallow = rw (w.opened-is, w.next-is) (shallow_next opened end i c.args.max_depth inv.shallow inv.more _ next.1);
-            front = rw (w.next-is, w.held-is) w.at-held-then-is_take.ensures.front;
-            rest = rw (w.next-is, w.held-is) w.at-held-then-is_take.ensures.rest;
-            class = rw (w.known-is, w.held-is)
-                (w.known-known-then-is_take.ensures ∙ ap known_class w.token-then-is_take.ensures);
+            front = rw (w.next-is, w.loaded-is) w.at-loaded-then-is_take.ensures.front;
+            rest = rw (w.next-is, w.loaded-is) w.at-loaded-then-is_take.ensures.rest;
+            class = rw (w.column-is, w.loaded-is)
+                (w.known-column-then-is_take.ensures ∙ ap known_class w.token-then-is_take.ensures);
             mid = rw (w.next-is, w.opened-is, w.table-is, w.left-is, w.cells-is) next.0;
           }
       | else-is_take+then-is_stop+in-Some-follow_word+else-next-last-3 w ↦
@@ -371,7 +371,7 @@ loop-first-preserved g c =
           let rest : drop i toks ≡ t ∷ drop (i + 1) toks = inv.rest ∙ ap (λ (k : ℕ). k ∷ drop (i + 1) toks) (sym same) in
           let class = inv.class ∙ ap known_class (sym same) in
           let counted : count_one (is_bra t) (is_ket t) (Some opened) ≡ open_count ((opened + w.bracket_step-opened-then-is_stop.result) % 65536) =
-          counted_by_step opened t c.loop-first.known class low
+          counted_by_step opened t c.loop-first.column class low
           ∙ ap (λ (k : ℕ). open_count ((opened + k) % 65536)) (sym w.bracket_step-opened-then-is_stop.ensures) in
           let whole = top_whole c.loop-first.left g.row.N inv.some inv.inside in
           let stack : reverse (take (c.loop-first.left - 1 + 1) c.loop-first.cells) ≡ now.stack =
@@ -397,10 +397,10 @@ loop-first-preserved g c =
             from = rw w.next-is (from_next c.args.start.read i inv.from);
             more = rw w.next-is (not_last i end inv.more w.if-next-last-3.false);
             shallow = rw (w.opened-is, w.next-is) (shallow_next opened end i c.args.max_depth inv.shallow inv.more _ next.1);
-            front = rw (w.next-is, w.held-is) w.at-held-then-is_stop.ensures.front;
-            rest = rw (w.next-is, w.held-is) w.at-held-then-is_stop.ensures.rest;
-            class = rw (w.known-is, w.held-is)
-                (w.known-known-then-is_stop.ensures ∙ ap known_class w.token-then-is_stop-2.ensures);
+            front = rw (w.next-is, w.loaded-is) w.at-loaded-then-is_stop.ensures.front;
+            rest = rw (w.next-is, w.loaded-is) w.at-loaded-then-is_stop.ensures.rest;
+            class = rw (w.column-is, w.loaded-is)
+                (w.known-column-then-is_stop.ensures ∙ ap known_class w.token-then-is_stop-2.ensures);
             mid = rw (w.next-is, w.opened-is, w.table-is, w.left-is, w.cells-is) next.0;
           }
       | else-is_take+else-is_stop w ↦
@@ -428,9 +428,9 @@ loop-first-preserved g c =
             from = rw w.next-is inv.from;
             more = rw w.next-is inv.more;
             shallow = rw (w.opened-is, w.next-is) inv.shallow;
-            front = rw (w.next-is, w.held-is) inv.front;
-            rest = rw (w.next-is, w.held-is) inv.rest;
-            class = rw (w.known-is, w.held-is) inv.class;
+            front = rw (w.next-is, w.loaded-is) inv.front;
+            rest = rw (w.next-is, w.loaded-is) inv.rest;
+            class = rw (w.column-is, w.loaded-is) inv.class;
             mid = rw (w.next-is, w.opened-is, w.table-is, w.left-is, w.cells-is) mid;
           }
     ]
@@ -443,7 +443,7 @@ returns-clause-reads g c =
     let end = c.min-end.result in
     let size = length c.args.body.now in
     let toks = tokens_of c.args.body.now in
-    let known = c.if-left-ne0.known in
+    let column = c.if-left-ne0.column in
     let shut = c.reject_at-2 in
     elim c.if-left-ne0.branch [
       | then-left-ne0+in_default+then-left-eq0 w ↦
@@ -462,7 +462,7 @@ returns-clause-reads g c =
                 let rest : drop i toks ≡ t ∷ drop (i + 1) toks = inv.rest ∙ ap (λ (k : ℕ). k ∷ drop (i + 1) toks) (sym same) in
                 let class = inv.class ∙ ap known_class (sym same) in
                 let counted : count_one (is_bra t) (is_ket t) (Some opened) ≡ open_count ((opened + v.bracket_step-opened-then-is_take.result) % 65536) =
-                counted_by_step opened t w.loop-first.known class low
+                counted_by_step opened t w.loop-first.column class low
                 ∙ ap (λ (k : ℕ). open_count ((opened + k) % 65536)) (sym v.bracket_step-opened-then-is_take.ensures) in
                 let cells = w.loop-first.cells in
                 let s = w.loop-first.symbol in
@@ -485,11 +485,11 @@ returns-clause-reads g c =
                 let few = count_low _ c.args.max_depth g.row.N (less_within _ _ (less_deep _ end here c.args.max_depth shallow more))
                 c.requires.size c.requires.at_depth_limit in
                 rejects_next g.T.Predict g.met.T.Predict.laws c.args.max_depth c.args.body.now c.args.start.read c.args.start.unclosed old
-                c.if-left-ne0.next c.if-left-ne0.opened end v.at-held-then-is_take.result c.if-left-ne0.left c.bracket_step.result shut.result.tokens
-                shut.result.count known shut.result.unclosed shut.result.place c.if-left-ne0.table c.if-left-ne0.cells
+                c.if-left-ne0.next c.if-left-ne0.opened end v.at-loaded-then-is_take.result c.if-left-ne0.left c.bracket_step.result shut.result.tokens
+                shut.result.count column shut.result.unclosed shut.result.place c.if-left-ne0.table c.if-left-ne0.cells
                 (rw (w.next-is ∙ v.next-is, w.opened-is ∙ v.opened-is, w.table-is ∙ v.table-is, w.left-is ∙ v.left-is, w.cells-is ∙ v.cells-is) next.0)
-                (w.left-is ∙ w.if-left-eq0.true) (rw (w.next-is ∙ v.next-is) inside) (rw (w.next-is ∙ v.next-is) v.at-held-then-is_take.ensures.front) (rw (w.next-is ∙ v.next-is) v.at-held-then-is_take.ensures.rest)
-                (w.known-is ∙ v.known-is ∙ v.known-known-then-is_take.ensures ∙ ap known_class v.token-then-is_take.ensures) (rw (w.opened-is ∙ v.opened-is) few) c.bracket_step.ensures
+                (w.left-is ∙ w.if-left-eq0.true) (rw (w.next-is ∙ v.next-is) inside) (rw (w.next-is ∙ v.next-is) v.at-loaded-then-is_take.ensures.front) (rw (w.next-is ∙ v.next-is) v.at-loaded-then-is_take.ensures.rest)
+                (w.column-is ∙ v.column-is ∙ v.known-column-then-is_take.ensures ∙ ap known_class v.token-then-is_take.ensures) (rw (w.opened-is ∙ v.opened-is) few) c.bracket_step.ensures
                 shut.ensures.tokens shut.ensures.unclosed shut.ensures.place shut.ensures.count
             | else-is_take+then-is_stop+in-Some-follow_word+else-next-last-3 v ↦
                 let t = v.token-then-is_stop.result in
@@ -498,7 +498,7 @@ returns-clause-reads g c =
                 let rest : drop i toks ≡ t ∷ drop (i + 1) toks = inv.rest ∙ ap (λ (k : ℕ). k ∷ drop (i + 1) toks) (sym same) in
                 let class = inv.class ∙ ap known_class (sym same) in
                 let counted : count_one (is_bra t) (is_ket t) (Some opened) ≡ open_count ((opened + v.bracket_step-opened-then-is_stop.result) % 65536) =
-                counted_by_step opened t w.loop-first.known class low
+                counted_by_step opened t w.loop-first.column class low
                 ∙ ap (λ (k : ℕ). open_count ((opened + k) % 65536)) (sym v.bracket_step-opened-then-is_stop.ensures) in
                 let whole = top_whole w.loop-first.left g.row.N inv.some inv.inside in
                 let stack : reverse (take (w.loop-first.left - 1 + 1) w.loop-first.cells) ≡ now.stack =
@@ -526,11 +526,11 @@ returns-clause-reads g c =
                 let few = count_low _ c.args.max_depth g.row.N (less_within _ _ (less_deep _ end here c.args.max_depth shallow more))
                 c.requires.size c.requires.at_depth_limit in
                 rejects_next g.T.Predict g.met.T.Predict.laws c.args.max_depth c.args.body.now c.args.start.read c.args.start.unclosed old
-                c.if-left-ne0.next c.if-left-ne0.opened end v.at-held-then-is_stop.result c.if-left-ne0.left c.bracket_step.result shut.result.tokens
-                shut.result.count known shut.result.unclosed shut.result.place c.if-left-ne0.table c.if-left-ne0.cells
+                c.if-left-ne0.next c.if-left-ne0.opened end v.at-loaded-then-is_stop.result c.if-left-ne0.left c.bracket_step.result shut.result.tokens
+                shut.result.count column shut.result.unclosed shut.result.place c.if-left-ne0.table c.if-left-ne0.cells
                 (rw (w.next-is ∙ v.next-is, w.opened-is ∙ v.opened-is, w.table-is ∙ v.table-is, w.left-is ∙ v.left-is, w.cells-is ∙ v.cells-is) next.0)
-                (w.left-is ∙ w.if-left-eq0.true) (rw (w.next-is ∙ v.next-is) inside) (rw (w.next-is ∙ v.next-is) v.at-held-then-is_stop.ensures.front) (rw (w.next-is ∙ v.next-is) v.at-held-then-is_stop.ensures.rest)
-                (w.known-is ∙ v.known-is ∙ v.known-known-then-is_stop.ensures ∙ ap known_class v.token-then-is_stop-2.ensures) (rw (w.opened-is ∙ v.opened-is) few) c.bracket_step.ensures
+                (w.left-is ∙ w.if-left-eq0.true) (rw (w.next-is ∙ v.next-is) inside) (rw (w.next-is ∙ v.next-is) v.at-loaded-then-is_stop.ensures.front) (rw (w.next-is ∙ v.next-is) v.at-loaded-then-is_stop.ensures.rest)
+                (w.column-is ∙ v.column-is ∙ v.known-column-then-is_stop.ensures ∙ ap known_class v.token-then-is_stop-2.ensures) (rw (w.opened-is ∙ v.opened-is) few) c.bracket_step.ensures
                 shut.ensures.tokens shut.ensures.unclosed shut.ensures.place shut.ensures.count
             | else-is_take+else-is_stop v ↦
                 let t = w.token-in-loop-first.result in
@@ -559,11 +559,11 @@ returns-clause-reads g c =
                 let few = count_low _ c.args.max_depth g.row.N (less_within _ _ (less_deep _ end here c.args.max_depth shallow more))
                 c.requires.size c.requires.at_depth_limit in
                 rejects_next g.T.Predict g.met.T.Predict.laws c.args.max_depth c.args.body.now c.args.start.read c.args.start.unclosed old
-                c.if-left-ne0.next c.if-left-ne0.opened end w.loop-first.held c.if-left-ne0.left c.bracket_step.result shut.result.tokens
-                shut.result.count known shut.result.unclosed shut.result.place c.if-left-ne0.table c.if-left-ne0.cells
+                c.if-left-ne0.next c.if-left-ne0.opened end w.loop-first.loaded c.if-left-ne0.left c.bracket_step.result shut.result.tokens
+                shut.result.count column shut.result.unclosed shut.result.place c.if-left-ne0.table c.if-left-ne0.cells
                 (rw (w.next-is ∙ v.next-is, w.opened-is ∙ v.opened-is, w.table-is ∙ v.table-is, w.left-is ∙ v.left-is, w.cells-is ∙ v.cells-is) mid)
                 (w.left-is ∙ w.if-left-eq0.true) (rw (w.next-is ∙ v.next-is) inside) (rw (w.next-is ∙ v.next-is) inv.front) (rw (w.next-is ∙ v.next-is) inv.rest)
-                (w.known-is ∙ v.known-is ∙ inv.class) (rw (w.opened-is ∙ v.opened-is) few) c.bracket_step.ensures
+                (w.column-is ∙ v.column-is ∙ inv.class) (rw (w.opened-is ∙ v.opened-is) few) c.bracket_step.ensures
                 shut.ensures.tokens shut.ensures.unclosed shut.ensures.place shut.ensures.count
           ]
       | else-left-ne0 w ↦
@@ -576,14 +576,14 @@ returns-clause-reads g c =
           let few = count_low _ c.args.max_depth g.row.N (less_within _ _ (less_deep _ end here c.args.max_depth shallow more))
           c.requires.size c.requires.at_depth_limit in
           rejects_next g.T.Predict g.met.T.Predict.laws c.args.max_depth c.args.body.now c.args.start.read c.args.start.unclosed old
-          c.if-left-ne0.next c.if-left-ne0.opened end c.at-held.result c.if-left-ne0.left c.bracket_step.result shut.result.tokens
-          shut.result.count known shut.result.unclosed shut.result.place c.if-left-ne0.table c.if-left-ne0.cells
+          c.if-left-ne0.next c.if-left-ne0.opened end c.at-loaded.result c.if-left-ne0.left c.bracket_step.result shut.result.tokens
+          shut.result.count column shut.result.unclosed shut.result.place c.if-left-ne0.table c.if-left-ne0.cells
           (rw (w.next-is, w.opened-is, w.table-is, w.left-is, w.cells-is) (begun g.T.Predict g.met.T.Predict.laws c.args.max_depth c.args.body.now c.args.start.read c.args.start.unclosed old
           c.args.start.read c.args.start.unclosed end old
           (at_start g.T.Predict g.met.T.Predict.laws c.args.max_depth c.args.body.now c.args.start.read c.args.start.unclosed old
           (less_within _ _ c.requires.deep) c.requires.lawful)))
-          (w.left-is ∙ w.if-left-ne0.false) (rw (w.next-is) inside) (rw (w.next-is) c.at-held.ensures.front) (rw (w.next-is) c.at-held.ensures.rest)
-          (w.known-is ∙ c.known-known.ensures ∙ ap known_class c.token.ensures) (rw (w.opened-is) few) c.bracket_step.ensures
+          (w.left-is ∙ w.if-left-ne0.false) (rw (w.next-is) inside) (rw (w.next-is) c.at-loaded.ensures.front) (rw (w.next-is) c.at-loaded.ensures.rest)
+          (w.column-is ∙ c.known-column.ensures ∙ ap known_class c.token.ensures) (rw (w.opened-is) few) c.bracket_step.ensures
           shut.ensures.tokens shut.ensures.unclosed shut.ensures.place shut.ensures.count
     ]
 
@@ -718,27 +718,27 @@ overflow_add-next g c =
     token_fits (length c.args.body.now) _ (next_left g (goal.at.overflow_add-next g c).At-loop-first c.if-next-last.false)
     c.requires.room
 
-pub at-held-requires-in-Some : goal.at-held-requires-in-Some
-at-held-requires-in-Some g c =
-    whole_token (length c.args.body.now) _ (next_left g (goal.at.at-held-requires-in-Some g c).At-loop-first c.if-next-last.false)
+pub at-loaded-requires-in-Some : goal.at-loaded-requires-in-Some
+at-loaded-requires-in-Some g c =
+    whole_token (length c.args.body.now) _ (next_left g (goal.at.at-loaded-requires-in-Some g c).At-loop-first c.if-next-last.false)
 
 pub overflow_add-next-then-is_take : goal.overflow_add-next-then-is_take
 overflow_add-next-then-is_take g c =
     token_fits (length c.args.body.now) _ (next_left g (goal.at.overflow_add-next-then-is_take g c).At-loop-first c.if-next-last-2.false)
     c.requires.room
 
-pub at-held-requires-then-is_take : goal.at-held-requires-then-is_take
-at-held-requires-then-is_take g c =
-    whole_token (length c.args.body.now) _ (next_left g (goal.at.at-held-requires-then-is_take g c).At-loop-first c.if-next-last-2.false)
+pub at-loaded-requires-then-is_take : goal.at-loaded-requires-then-is_take
+at-loaded-requires-then-is_take g c =
+    whole_token (length c.args.body.now) _ (next_left g (goal.at.at-loaded-requires-then-is_take g c).At-loop-first c.if-next-last-2.false)
 
 pub overflow_add-next-then-is_stop : goal.overflow_add-next-then-is_stop
 overflow_add-next-then-is_stop g c =
     token_fits (length c.args.body.now) _ (next_left g (goal.at.overflow_add-next-then-is_stop g c).At-loop-first c.if-next-last-3.false)
     c.requires.room
 
-pub at-held-requires-then-is_stop : goal.at-held-requires-then-is_stop
-at-held-requires-then-is_stop g c =
-    whole_token (length c.args.body.now) _ (next_left g (goal.at.at-held-requires-then-is_stop g c).At-loop-first c.if-next-last-3.false)
+pub at-loaded-requires-then-is_stop : goal.at-loaded-requires-then-is_stop
+at-loaded-requires-then-is_stop g c =
+    whole_token (length c.args.body.now) _ (next_left g (goal.at.at-loaded-requires-then-is_stop g c).At-loop-first c.if-next-last-3.false)
 
 -- a token that is taken, or a symbol that is removed, is not read again
 pub loop-first-smaller-in-Some : goal.loop-first-smaller-in-Some

@@ -2,6 +2,6 @@ use Rattle.daide_run.proofs.ExchangeLemmas.{served_exchange, transfers_within}
 use Rattle.daide_run.proofs.laws.served_sessions_exchange.Goals as goal
 
 pub returns : goal.returns
-returns g c = λ settings answers now h.
+returns g c = λ settings trace now h.
     served_exchange (λ ports. (ports.ports.bot.stream, ports.ports.server.stream)) g.S.Duplex.to_give g.S.Duplex.taken _
-    (λ old answer new moved. transfers_within g.S.Duplex.to_give g.S.Duplex.taken answer _ _ moved.ports.0) settings answers now h
+    (λ old call new moved. transfers_within g.S.Duplex.to_give g.S.Duplex.taken call _ _ moved.ports.0) settings trace now h

@@ -11,7 +11,7 @@ serve_opened-requires-clause-none g c =
       closing = system.closings;
     }) _ _ _ c.set_verbose.ensures
     (none_yet _ c.in-Some.sockets.stall_time _ _ _ c.in-Some.ensures.stall_time.0 c.in-Some.ensures.none_came.0
-    c.in-Some.ensures.none_held.0 c.in-Some.ensures.none_held.1)
+    c.in-Some.ensures.none_pending.0 c.in-Some.ensures.none_pending.1)
 
 pub serve_opened-requires-clause-rows : goal.serve_opened-requires-clause-rows
 serve_opened-requires-clause-rows g c =

@@ -10,7 +10,7 @@ returns g c = rw c.ending_of.ensures (
       arrivals = system.sockets.now.arrivals.items;
       closing = system.sockets.now.closings;
     }) _ (λ system. AreRowsOf system.sockets.now.poller.table (closing_keys system.sockets.now.closings.streams))
-    (λ old answer new holds moved. let all = moved holds in (all.0, all.1))
+    (λ old call new holds moved. let all = moved holds in (all.0, all.1))
     c.args.settings.now _ _ _ _ _
     (ran_on _ _ c.args.settings.now _ _ _ _ c.serve_on-served.new.system c.serve_on-served.result
     c.serve_on-served.ensures.announced c.serve_on-served.ensures.served c.serve_on-served.ensures.given_up)

@@ -1,5 +1,5 @@
 use Rattle.daide_session.proofs.Common.{ℕ, List, [], true, refl, sym, ap, ◌∙◌, drop, tokens_of, Side, Deed, at}
-use Rattle.daide_session.proofs.Common.{frame_accounted, name_after, Account, deed_of, is_sent, tokens_held, pending}
+use Rattle.daide_session.proofs.Common.{frame_accounted, name_after, Account, deed_of, is_sent, frame_tokens, pending}
 use Rattle.daide_protocol.specs.declared.note.Note.TheVariants as Note
 use Rattle.daide_protocol.proofs.AccountLemmas.{named_account}
 use Rattle.daide_session.proofs.FrameEventsLemmas.{account_held, answered_whole, dropped_whole, phase_held}
@@ -44,7 +44,7 @@ returns-clause-reacts g c =
     c.count_frame.new.self c.record_name.new.self
     (c.count_frame.ensures _ c.found-2.ensures
     ∙ (ap (λ (d : Deed). record (frame_accounted s.top_level c.args.side c.args.head.kind d
-    (tokens_held c.reply-verdict.new.self.cap (at c.reply-verdict.new.self.sides c.args.side).holding.held) s.account)
+    (frame_tokens c.reply-verdict.new.self.cap (at c.reply-verdict.new.self.sides c.args.side).holding.frame_bytes) s.account)
     { name = s.account.name })
     c.deed_of-deed.ensures
     ∙ ap (λ (a : Account). record a { name = s.account.name })
@@ -58,4 +58,4 @@ returns-clause-reacts g c =
       name = name_after c.args.head.kind c.args.side (deed_of true c.reply-verdict.result) (tokens_of l)
           c.count_frame.new.self.name;
     }) (c.body.ensures.value
-    ∙ ap (λ (l : List ℕ). drop 4 l) (c.reply-verdict.ensures.answered.held ∙ c.requires.ready.tied)))))
+    ∙ ap (λ (l : List ℕ). drop 4 l) (c.reply-verdict.ensures.answered.frame_bytes ∙ c.requires.ready.tied)))))

@@ -7,7 +7,7 @@ use Rattle.daide_tools.proofs.framing.run_frame.Goals as goal
 
 pub returns-in-Err-clause-framed : goal.returns-in-Err-clause-framed
 returns-in-Err-clause-framed g c =
-    IfOk-weaker c.tell.result _ _
+    IfOk-weaker c.print_fault.result _ _
     (λ status e. (
       [],
       (λ none. refl),
@@ -15,7 +15,7 @@ returns-in-Err-clause-framed g c =
           (lines_by (option_map (λ typed. map (λ word. word.now) typed.now) c.args.order.typed) (g.I.Read.remaining c.args.input.now))
           (g.O.Write.contents c.args.output.now) status e,
     ))
-    c.tell.ensures
+    c.print_fault.ensures
 
 pub returns-in-Some-clause-framed : goal.returns-in-Some-clause-framed
 returns-in-Some-clause-framed g c =

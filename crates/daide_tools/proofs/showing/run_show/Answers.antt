@@ -7,7 +7,7 @@ use Rattle.daide_tools.proofs.showing.run_show.Goals as goal
 
 pub returns-in-Err-clause-shown : goal.returns-in-Err-clause-shown
 returns-in-Err-clause-shown g c =
-    IfOk-weaker c.tell.result _ _
+    IfOk-weaker c.print_fault.result _ _
     (λ status e. (
       [],
       (λ none. refl),
@@ -21,7 +21,7 @@ returns-in-Err-clause-shown g c =
           (given_by (option_map (λ typed. map (λ word. word.now) typed.now) c.args.order.typed) (g.I.Read.remaining c.args.input.now))
           (g.O.Write.contents c.args.output.now) status e,
     ))
-    c.tell.ensures
+    c.print_fault.ensures
 
 pub returns-in-Some-clause-shown : goal.returns-in-Some-clause-shown
 returns-in-Some-clause-shown g c =

@@ -17,12 +17,12 @@ returns-in_default-clause-passes g c =
 
 pub returns-clause-passes : goal.returns-clause-passes
 returns-clause-passes g c =
-    let same : buffered_bytes c.self.inside.write_buffer ≡ c.in-Some.held.bytes = search rules in
+    let same : buffered_bytes c.self.inside.write_buffer ≡ c.in-Some.storage.bytes = search rules in
     of_view g.S.Duplex.to_give g.S.Duplex.taken _ _ _ _ _ c.self.view_is
-    (drain_passes g.S.Duplex.to_give g.S.Duplex.taken _ _ c.drain.result c.in-Some.held.bytes c.drain.new.self.bytes
-    same c.kept.ensures.held c.drain.ensures.taken c.drain.ensures.rest
+    (drain_passes g.S.Duplex.to_give g.S.Duplex.taken _ _ c.drain.result c.in-Some.storage.bytes c.drain.new.self.bytes
+    same c.kept.ensures.bytes c.drain.ensures.taken c.drain.ensures.rest
     (record { read_buffer = refl; gives = c.drain.ensures.apart }))
 
 pub returns-clause-writes : goal.returns-clause-writes
 returns-clause-writes g c =
-    rw (sym c.self.view_is) (one_put g.S.Duplex.calls c.in-Some.held.bytes _ _ _ _ _ c.drain.ensures.asked)
+    rw (sym c.self.view_is) (one_put g.S.Duplex.calls c.in-Some.storage.bytes _ _ _ _ _ c.drain.ensures.asked)

@@ -8,8 +8,8 @@ use Rattle.daide_buffered_io.proofs.buffered.Buffered.pull.Goals.{then-is_empty-
 
 pub returns-in-Some-clause-passes : goal.returns-in-Some-clause-passes
 returns-in-Some-clause-passes g c =
-    let same : c.args.self.now.read_buffer ≡ c.in-Some.held.bytes = search rules in
-    out_passes g.S.Duplex.to_give g.S.Duplex.taken c.args.self.now _ c.in-Some.held.bytes _
+    let same : c.args.self.now.read_buffer ≡ c.in-Some.storage.bytes = search rules in
+    out_passes g.S.Duplex.to_give g.S.Duplex.taken c.args.self.now _ c.in-Some.storage.bytes _
     (c.hand_out.ensures.rest.0 ∙ ap (λ (b : Buffer g.row.S.Denot). b.stream) c.take_ahead.ensures.rest) same
     c.hand_out.ensures.bytes
     (c.hand_out.ensures.rest.1 ∙ ap (λ (b : Buffer g.row.S.Denot). b.write_buffer) c.take_ahead.ensures.rest)
@@ -29,7 +29,7 @@ returns-then-is_empty-clause-passes g c =
 
 pub returns-in-Some-clause-asked : goal.returns-in-Some-clause-asked
 returns-in-Some-clause-asked g c = λ none.
-    absurd (is_some c.in-Some.held.bytes c.args.self.now.read_buffer c.in-Some.ensures.held c.in-Some.ensures.some none)
+    absurd (is_some c.in-Some.storage.bytes c.args.self.now.read_buffer c.in-Some.ensures.bytes c.in-Some.ensures.some none)
 
 pub returns-then-is_empty-clause-asked : goal.returns-then-is_empty-clause-asked
 returns-then-is_empty-clause-asked g c =

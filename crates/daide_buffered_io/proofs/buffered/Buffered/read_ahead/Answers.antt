@@ -30,7 +30,7 @@ returns-in_default-clause-asked g c =
 
 pub returns-in-Got-clause-asked : goal.returns-in-Got-clause-asked
 returns-in-Got-clause-asked g c =
-    let free_space = short (length c.args.buffer.now) 16384 _ c.in-Some.held c.in-Some.is
+    let free_space = short (length c.args.buffer.now) 16384 _ c.in-Some.storage c.in-Some.is
     (elim c.if-buffer-lt-MOST_HELD.branch [
       | then-buffer-lt-MOST_HELD w ↦ inl w.if-buffer-lt-MOST_HELD.true
       | else-buffer-lt-MOST_HELD w ↦ inr w.free_space-is
@@ -41,7 +41,7 @@ returns-in-Got-clause-asked g c =
 
 pub returns-in-Idle-clause-asked : goal.returns-in-Idle-clause-asked
 returns-in-Idle-clause-asked g c =
-    let free_space = short (length c.args.buffer.now) 16384 _ c.in-Some.held c.in-Some.is
+    let free_space = short (length c.args.buffer.now) 16384 _ c.in-Some.storage c.in-Some.is
     (elim c.if-buffer-lt-MOST_HELD.branch [
       | then-buffer-lt-MOST_HELD w ↦ inl w.if-buffer-lt-MOST_HELD.true
       | else-buffer-lt-MOST_HELD w ↦ inr w.free_space-is
@@ -52,7 +52,7 @@ returns-in-Idle-clause-asked g c =
 
 pub returns-in-Ended-clause-asked : goal.returns-in-Ended-clause-asked
 returns-in-Ended-clause-asked g c =
-    let free_space = short (length c.args.buffer.now) 16384 _ c.in-Some.held c.in-Some.is
+    let free_space = short (length c.args.buffer.now) 16384 _ c.in-Some.storage c.in-Some.is
     (elim c.if-buffer-lt-MOST_HELD.branch [
       | then-buffer-lt-MOST_HELD w ↦ inl w.if-buffer-lt-MOST_HELD.true
       | else-buffer-lt-MOST_HELD w ↦ inr w.free_space-is

@@ -7,7 +7,7 @@ use Rattle.daide_buffered_io.proofs.buffered.Buffered.take_first.Goals as goal
 
 pub returns-in-Some-clause-passes : goal.returns-in-Some-clause-passes
 returns-in-Some-clause-passes g c =
-    let none : c.in-Some.held.bytes ≡ c.args.self.now.write_buffer =
+    let none : c.in-Some.storage.bytes ≡ c.args.self.now.write_buffer =
     ap (λ (h : Roomful). h.bytes) c.in-Some.ensures ∙ sym c.requires in
     held_passes g.S.Duplex.to_give g.S.Duplex.taken c.args.self.now c.hold.new.self _ c.hold.ensures.rest.0
     c.hold.ensures.rest.1

@@ -17,9 +17,9 @@ of_room : {S : Type 0} (calls : S → Option (List StreamCall)) (n m : ℕ) (kno
 of_room calls n m known old pull still new h e =
     subst (λ (k : ℕ). IsBufferedPull calls k known old pull still new) e h
 
-handed_by : (n m held : ℕ) (pull : Pull) → (0 < held → pull ≡ Got (min held n)) → n ≡ m → 0 < held →
-    pull ≡ Got (min held m)
-handed_by n m held pull h e some = subst (λ (k : ℕ). pull ≡ Got (min held k)) e (h some)
+handed_by : (n m storage : ℕ) (pull : Pull) → (0 < storage → pull ≡ Got (min storage n)) → n ≡ m → 0 < storage →
+    pull ≡ Got (min storage m)
+handed_by n m storage pull h e some = subst (λ (k : ℕ). pull ≡ Got (min storage k)) e (h some)
 
 pub returns-in-Ended-clause-pulled : goal.returns-in-Ended-clause-pulled
 returns-in-Ended-clause-pulled g c = (

@@ -5,8 +5,8 @@ use Rattle.daide_buffered_io.proofs.BufferLemmas.{gathered}
 use Rattle.daide_buffered_io.proofs.io_buffer.IoBuffer.coalesce.Goals as goal
 use borrow.Rule.Slice.PartMut.{put_mid, post_of}
 
-pub returns-clause-held : goal.returns-clause-held
-returns-clause-held c =
+pub returns-clause-bytes : goal.returns-clause-bytes
+returns-clause-bytes c =
     let before = c.deref_mut.result.now in
     let piece = c.copy_from_slice.new.self in
     let from = c.self.inside.from in

@@ -71,8 +71,8 @@ returns-clause-whole g c =
     let whole = rw c.at_mut.ensures.value at c.feed.ensures.whole in
     (told_of c.feed.new.self c.args.piece.now c.feed.result h reads (record { items = items; whole = whole })).whole
 
-pub returns-clause-held : goal.returns-clause-held
-returns-clause-held g c =
+pub returns-clause-frame_bytes : goal.returns-clause-frame_bytes
+returns-clause-frame_bytes g c =
     let h = seen_free c.self.invariant c.self.view_is refl c.requires.free in
     let reads = rw c.at_mut.ensures.value at c.feed.ensures.reads in
-    held_side c.feed.result h reads c.feed.ensures.held
+    held_side c.feed.result h reads c.feed.ensures.frame_bytes

@@ -1,7 +1,7 @@
 use Rattle.daide_channels.proofs.Common.{◌≡◌, ℕ, List, true, false, drop, sym, ap, ◌∙◌, subst, refl, arith, length}
 use Rattle.daide_channels.proofs.Common.{tokens_of, head_in, head_bytes, start_symbol_of, ghosts, extended_look_ups}
 use Rattle.daide_channels.proofs.Common.{spoken_words, spoken, IsCorrectVerdict, question_of, is_dm, side2_of}
-use Rattle.daide_channels.proofs.Common.{tokens_held, is_dm_head, IsRaised, Receiver, rules_of, words_in}
+use Rattle.daide_channels.proofs.Common.{frame_tokens, is_dm_head, IsRaised, Receiver, rules_of, words_in}
 use Rattle.daide_grammar.specs.SideMessages.{IsMessageOver}
 use Rattle.daide_reader.specs.Verdict.{HasVerdict}
 use Rattle.daide_reader.specs.declared.verdict.Verdict.TheVariants.{Relay}
@@ -20,7 +20,7 @@ answer_head-requires g c =
     let i = c.self.inside in
     let limit = c.self.invariant.capped in
     let capped = head_capped i.cutter.cap i.cutter.bytes c.args.head
-    (ap (λ (v : Receiver). head_in v.cap v.held) c.self.view_is ∙ c.requires.head) in
+    (ap (λ (v : Receiver). head_in v.cap v.frame_bytes) c.self.view_is ∙ c.requires.head) in
     omega arith
 
 -- the verdict, and the tokens read
@@ -32,10 +32,10 @@ answers g c = elim c.if-is_message.branch [
   | then-is_message w ↦ rw (w.self-inside-is, w.verdict-is) (
       let i = c.self.inside in
       let dm : is_dm c.args.head.kind ≡ true = sym c.is_message.ensures ∙ w.if-is_message.true in
-      let tokens = tokens_held i.cutter.cap i.cutter.bytes in
+      let tokens = frame_tokens i.cutter.cap i.cutter.bytes in
       let words = spoken (spoken_words i.reader.table) in
-      let held : is_dm_head (head_in i.cutter.cap i.cutter.bytes) ≡ true =
-      ap is_dm_head (ap (λ (v : Receiver). head_in v.cap v.held) c.self.view_is ∙ c.requires.head) ∙ dm in
+      let frame_bytes : is_dm_head (head_in i.cutter.cap i.cutter.bytes) ≡ true =
+      ap is_dm_head (ap (λ (v : Receiver). head_in v.cap v.frame_bytes) c.self.view_is ∙ c.requires.head) ∙ dm in
       let told = w.finish-verdict.ensures.verdict (spoken_words i.reader.table)
       (start_symbol_of (side2_of i.side) i.level) i.reader.max_depth tokens
       c.self.invariant.stands in
@@ -44,7 +44,7 @@ answers g c = elim c.if-is_message.branch [
       w.finish-verdict.result =
       subst (λ (p : List ℕ). HasVerdict (IsMessageOver words (side2_of i.side) i.level) i.reader.max_depth p
       w.finish-verdict.result)
-      (all_held i.cutter.cap i.cutter.bytes held)
+      (all_held i.cutter.cap i.cutter.bytes frame_bytes)
       (spoken_verdicts (spoken_words i.reader.table) (side2_of i.side) i.level i.reader.max_depth tokens
       w.finish-verdict.result told) in
       record {
@@ -58,14 +58,14 @@ answers g c = elim c.if-is_message.branch [
         found = c.self.invariant.found;
         uncounted = λ no. absurd (cc);
         right = subst (λ (v : Receiver). IsCorrectVerdict v.rules.words v.rules.max_depth
-            (question_of v.side v.level c.args.head (drop 4 v.held)) w.finish-verdict.result) c.self.view_is
+            (question_of v.side v.level c.args.head (drop 4 v.frame_bytes)) w.finish-verdict.result) c.self.view_is
             (right_message (rules_of words_in i.reader) i.side i.level c.args.head
             (drop 4 i.cutter.bytes) w.finish-verdict.result dm
             right);
         same_side = ap (λ (v : Receiver). v.side) c.self.view_is;
         same_cap = ap (λ (v : Receiver). v.cap) c.self.view_is;
         same_level = ap (λ (v : Receiver). v.level) c.self.view_is;
-        same_held = ap (λ (v : Receiver). v.held) c.self.view_is;
+        same_held = ap (λ (v : Receiver). v.frame_bytes) c.self.view_is;
         same_rules = rules_kept words_in i.reader w.finish-verdict.new.self w.finish-verdict.ensures.depth
             (ap spoken w.finish-verdict.ensures.words) ∙ ap (λ (v : Receiver). v.rules) c.self.view_is;
         base = w.finish-verdict.ensures.base ∙ ap (λ (v : Receiver). v.total_before) c.self.view_is;
@@ -84,13 +84,13 @@ answers g c = elim c.if-is_message.branch [
         found = c.self.invariant.found;
         uncounted = c.self.invariant.uncounted;
         right = subst (λ (v : Receiver). IsCorrectVerdict v.rules.words v.rules.max_depth
-            (question_of v.side v.level c.args.head (drop 4 v.held)) Relay)
+            (question_of v.side v.level c.args.head (drop 4 v.frame_bytes)) Relay)
             c.self.view_is
             (right_other (rules_of words_in i.reader) i.side i.level c.args.head (drop 4 i.cutter.bytes) Relay dm refl);
         same_side = ap (λ (v : Receiver). v.side) c.self.view_is;
         same_cap = ap (λ (v : Receiver). v.cap) c.self.view_is;
         same_level = ap (λ (v : Receiver). v.level) c.self.view_is;
-        same_held = ap (λ (v : Receiver). v.held) c.self.view_is;
+        same_held = ap (λ (v : Receiver). v.frame_bytes) c.self.view_is;
         same_rules = ap (λ (v : Receiver). v.rules) c.self.view_is;
         base = ap (λ (v : Receiver). v.total_before) c.self.view_is;
         raised = subst (λ (v : Receiver). IsRaised 4 v.total (extended_look_ups i.reader.table)) c.self.view_is
@@ -126,7 +126,7 @@ returns-clause-answers g c =
       cap = j.same_cap;
       rules = j.same_rules;
       level = j.same_level;
-      held = j.same_held;
+      frame_bytes = j.same_held;
       header = c.write_head-self-inside.ensures ∙ ap head_bytes c.answer_head.ensures;
       verdict_set = refl;
       base = j.base;

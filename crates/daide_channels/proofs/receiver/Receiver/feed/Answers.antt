@@ -2,7 +2,7 @@ use Rattle.std.proofs.lemmas.List.{nil_from_length}
 use Rattle.daide_channels.proofs.Common.{◌≡◌, ℕ, ◌+◌, ◌-◌, ◌*◌, ◌/◌, ◌≤◌, List, [], None, true, false, length, take}
 use Rattle.daide_channels.proofs.Common.{drop, rules, refl, sym, ap, ◌∙◌, subst, arith, tokens_of, fed, head_in}
 use Rattle.daide_channels.proofs.Common.{start_symbol_of, ghosts, extended_look_ups, spoken_words, spoken, lvl_scan_of}
-use Rattle.daide_channels.proofs.Common.{side2_of, tokens_held, is_dm_head, Reading, IsRaised, HasReadPrefix, Receiver}
+use Rattle.daide_channels.proofs.Common.{side2_of, frame_tokens, is_dm_head, Reading, IsRaised, HasReadPrefix, Receiver}
 use Rattle.daide_channels.proofs.Common.{ReadsMessageBytes, receiver_of, tokens_ended, words_in}
 use Rattle.daide_words.specs.declared.extended.Extended.{Extended}
 use Rattle.daide_reader.specs.Reading.{tokens_read}
@@ -72,9 +72,9 @@ invariant_of-self-then-is_message g c =
     let read = c.self.invariant.stands.outline.tokens in
     let none : i.verdict ≡ None = ap (λ (v : Receiver). v.verdict) c.self.view_is ∙ c.requires.free in
     let seen : tokens_of (take (2 * tokens_read i.reader) c.body-then-is_message.result.now)
-    ≡ tokens_held i.cutter.cap i.cutter.bytes =
+    ≡ frame_tokens i.cutter.cap i.cutter.bytes =
     ap (λ (n : ℕ). tokens_of (take (2 * n) c.body-then-is_message.result.now)) read
-    ∙ ap (λ (x : List ℕ). tokens_of (take (2 * length (tokens_held i.cutter.cap i.cutter.bytes)) x))
+    ∙ ap (λ (x : List ℕ). tokens_of (take (2 * length (frame_tokens i.cutter.cap i.cutter.bytes)) x))
     c.body-then-is_message.ensures.value
     ∙ on.front in
     let stands = c.read.ensures.stands_after (spoken_words i.reader.table) first i.reader.max_depth
@@ -83,9 +83,9 @@ invariant_of-self-then-is_message g c =
     let hlo = c.read-then-is_message in
     let whole = c.body-then-is_message-2 in
     let seen_again : tokens_of (take (2 * c.tokens-read.result) whole.result.now)
-    ≡ tokens_held i.cutter.cap i.cutter.bytes =
+    ≡ frame_tokens i.cutter.cap i.cutter.bytes =
     ap (λ (n : ℕ). tokens_of (take (2 * n) whole.result.now)) (c.tokens-read.ensures ∙ read)
-    ∙ ap (λ (x : List ℕ). tokens_of (take (2 * length (tokens_held i.cutter.cap i.cutter.bytes)) x))
+    ∙ ap (λ (x : List ℕ). tokens_of (take (2 * length (frame_tokens i.cutter.cap i.cutter.bytes)) x))
     whole.ensures.value
     ∙ on.front in
     let found = hlo.ensures.found (c.self.invariant.found ∙ ap lvl_scan_of (sym seen_again))
@@ -139,7 +139,7 @@ returns-then-is_message-clause-reads g c =
     ap length c.body-then-is_message.ensures.value in
     let hlo = c.read-then-is_message.new.self in
     let new = receiver_of words_in extended_look_ups i.side i.level cut c.read.new.self hlo i.header i.verdict in
-    subst (λ (v : Receiver). ReadsMessageBytes v (fed v.cap v.held c.args.piece.now) new) c.self.view_is
+    subst (λ (v : Receiver). ReadsMessageBytes v (fed v.cap v.frame_bytes c.args.piece.now) new) c.self.view_is
     (reads_of ghosts words_in extended_look_ups i.side i.level i.cutter cut i.reader c.read.new.self i.hlo hlo i.header
     i.verdict (fed i.cutter.cap i.cutter.bytes c.args.piece.now) c.self.invariant none c.feed-step.ensures.cap
     c.feed-step.ensures.bytes
@@ -162,7 +162,7 @@ returns-then-is_message-clause-raised g c =
     ap length c.body-then-is_message.ensures.value in
     let le : 4 * (length c.body-then-is_message.result.now / 2 - tokens_read i.reader)
     ≤ 4 * tokens_ended i.cutter.cap i.cutter.bytes c.args.piece.now = rw (value, read) (omega (arith, ended)) in
-    subst (λ (v : Receiver). IsRaised (4 * tokens_ended v.cap v.held c.args.piece.now) v.total
+    subst (λ (v : Receiver). IsRaised (4 * tokens_ended v.cap v.frame_bytes c.args.piece.now) v.total
     (extended_look_ups c.read.new.self.table))
     c.self.view_is (raised_most _ _ _ _ le c.read.ensures.raised)
 

@@ -7,11 +7,11 @@ pub index-requires : goal.index-requires
 index-requires g c =
     let inside = within _ _ _ _ c.self.view_is c.args.place c.requires in omega (arith, inside, c.self.inside.places.ok.0)
 
-pub held-requires : goal.held-requires
-held-requires g c =
+pub item-requires : goal.item-requires
+item-requires g c =
     let slot = is_there _ _ _ _ c.self.view_is c.args.place c.index.result.now c.requires c.index.ensures in
     ap is_held slot.1
 
 pub returns : goal.returns
-returns g c = λ held own. ap (λ h. h.1) (same_held _ _ _ _ c.self.view_is c.args.place c.index.result.now c.held.result.now
-    c.requires c.index.ensures c.held.ensures held own)
+returns g c = λ held own. ap (λ h. h.1) (same_held _ _ _ _ c.self.view_is c.args.place c.index.result.now c.item.result.now
+    c.requires c.index.ensures c.item.ensures held own)

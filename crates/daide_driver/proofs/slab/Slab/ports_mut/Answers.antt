@@ -8,8 +8,8 @@ pub index_mut-requires : goal.index_mut-requires
 index_mut-requires g c =
     let inside = within _ _ _ _ c.self.view_is c.args.place c.requires in omega (arith, inside, c.self.inside.places.ok.0)
 
-pub held_mut-lent-requires : goal.held_mut-lent-requires
-held_mut-lent-requires g c =
+pub item_mut-lent-requires : goal.item_mut-lent-requires
+item_mut-lent-requires g c =
     let slot = is_there _ _ _ _ c.self.view_is c.args.place c.index_mut.result.now c.requires c.index_mut.ensures.value in
     ap is_held slot.1
 
@@ -17,18 +17,18 @@ held_mut-lent-requires g c =
 pub invariant_of-self-lent : goal.invariant_of-self-lent
 invariant_of-self-lent g c w =
     let s = c.self.inside in
-    let slot = c.held_mut-lent.result.now in
+    let slot = c.item_mut-lent.result.now in
     next_kept s.places.items c.args.place s.next (Held slot) (Held (record { session = slot.session; ports = w }))
     (item_held _ _ _ _ c.self.view_is c.args.place c.index_mut.result.now slot
-    c.requires c.index_mut.ensures.value c.held_mut-lent.ensures.value)
+    c.requires c.index_mut.ensures.value c.item_mut-lent.ensures.value)
     (λ e. cc) (λ e. cc) c.self.invariant
 
 pub returns : goal.returns
 returns g c =
     let s = c.self.inside in
-    let slot = c.held_mut-lent.result.now in
+    let slot = c.item_mut-lent.result.now in
     let at = held_at _ _ _ _ c.self.view_is c.args.place c.index_mut.result.now slot
-    c.requires c.index_mut.ensures.value c.held_mut-lent.ensures.value in (
+    c.requires c.index_mut.ensures.value c.item_mut-lent.ensures.value in (
       (
         refl,
         λ w. place_set _ _ _ _ c.self.view_is c.args.place
@@ -38,6 +38,6 @@ returns g c =
       record {
         writes_back = tt;
         value = λ held own. ap (λ p. p.1) (same_held _ _ _ _ c.self.view_is c.args.place
-            c.index_mut.result.now slot c.requires c.index_mut.ensures.value c.held_mut-lent.ensures.value held own);
+            c.index_mut.result.now slot c.requires c.index_mut.ensures.value c.item_mut-lent.ensures.value held own);
       },
     )

@@ -53,8 +53,8 @@ returns-then-accept g c =
       counters = record run.counters { accepted = run.counters.accepted + 1 };
       ready = c.wake.new.self;
     } in
-    subst (λ (old : ServiceView g.row.P.Denot). (answers : List (SystemCall g.row.P.Denot))
-    × TransitsBy go c.args.system.now answers c.accept.new.self × Admits old answers new) c.self.view_is (
+    subst (λ (old : ServiceView g.row.P.Denot). (trace : List (SystemCall g.row.P.Denot))
+    × TransitsBy go c.args.system.now trace c.accept.new.self × Admits old trace new) c.self.view_is (
       Accepts place true ∷ [],
       (
         c.accept.new.self,
@@ -75,8 +75,8 @@ pub returns-else-accept : goal.returns-else-accept
 returns-else-accept g c =
     let go = g.S.System.transition in
     let place = c.in-Some.place in
-    subst (λ (run : ServiceView g.row.P.Denot). (answers : List (SystemCall g.row.P.Denot))
-    × TransitsBy go c.args.system.now answers c.accept.new.self × Admits run answers run) c.self.view_is (
+    subst (λ (run : ServiceView g.row.P.Denot). (trace : List (SystemCall g.row.P.Denot))
+    × TransitsBy go c.args.system.now trace c.accept.new.self × Admits run trace run) c.self.view_is (
       Accepts place false ∷ [],
       (
         c.accept.new.self,

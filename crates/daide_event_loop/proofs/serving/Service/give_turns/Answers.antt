@@ -35,15 +35,15 @@ returns-then-is_closed g c =
       slab = c.remove-removed.new.self;
       counters = c.self.inside.counters;
       ready = c.self.inside.ready;
-    }) c.part_with.new.system) c.self.view_is
-    (retired g.P.Ports.transition g.S.System.transition c.args.system.now c.take_turns-turns.new.system c.part_with.new.system (record {
+    }) c.retire_session.new.system) c.self.view_is
+    (retired g.P.Ports.transition g.S.System.transition c.args.system.now c.take_turns-turns.new.system c.retire_session.new.system (record {
       slab = c.self.inside.slab;
       counters = c.self.inside.counters;
       ready = c.self.inside.ready;
     }) c.args.place c.take_turns-turns.result c.take_turns-turns.new.slab c.remove-removed.new.self c.session.result.now
     c.remove-removed.result.ports c.remove-removed.result.account c.remove-removed.result.ending c.remove-removed.result.fault_field
     c.take_turns-turns.ensures c.session.ensures
-    (sym c.is_closed.ensures ∙ c.if-is_closed.true) removed.frees removed.ports removed.reported c.part_with.ensures)
+    (sym c.is_closed.ensures ∙ c.if-is_closed.true) removed.frees removed.ports removed.reported c.retire_session.ensures)
 
 pub returns-then-not-rests : goal.returns-then-not-rests
 returns-then-not-rests g c =

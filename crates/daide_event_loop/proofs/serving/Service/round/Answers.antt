@@ -61,8 +61,8 @@ returns-in_err-visit_ready-clause-broken_off g c =
           c.visit_ready.new.self) same broken.2;
       asked = refl;
     } in
-    at_error c.from_residual.result ((answers : List (SystemCall g.row.P.Denot)) × TransitsBy go c.args.system.now answers c.visit_ready.new.system
-    × BreaksOff g.A.Memory.Refuses g.P.Ports.transition c.args.self.now answers c.visit_ready.new.self) (
+    at_error c.from_residual.result ((trace : List (SystemCall g.row.P.Denot)) × TransitsBy go c.args.system.now trace c.visit_ready.new.system
+    × BreaksOff g.A.Memory.Refuses g.P.Ports.transition c.args.self.now trace c.visit_ready.new.self) (
       opens ++ broken.0,
       transits_then go opens broken.0 _ _ _
           (opened go c.args.system.now _ _ run c.is_empty.result poll.0 orders c.is_empty.ensures poll.2 c.show_sessions.ensures)

@@ -10,8 +10,8 @@ give_turns-requires g c =
     subst (λ (run : ServiceView g.row.P.Denot). is_at is_held run.slab.places c.args.place ≡ true) c.self.view_is
     (sym c.has.ensures ∙ c.if-has.true)
 
-pub meet-requires : goal.meet-requires
-meet-requires g c =
+pub join-requires : goal.join-requires
+join-requires g c =
     subst (λ (run : ServiceView g.row.P.Denot). is_at is_held run.slab.places c.args.place ≡ false) c.self.view_is
     (sym c.has.ensures ∙ c.if-has.false)
 

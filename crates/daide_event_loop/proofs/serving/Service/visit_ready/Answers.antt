@@ -45,14 +45,14 @@ returns-in_err-turns-clause-broken_off g c =
     let broken = c.in_err-turns.ensures.broken_off in
     let before = subst (λ (now : ServiceView g.row.P.Denot). Visited g.P.Ports.transition go c.args.system.now c.args.self.now
     c.loop-turns.turns now c.loop-turns.system) (sym c.self.view_is) c.loop-turns.invariant.1 in
-    at_error c.from_residual.result ((answers : List (SystemCall g.row.P.Denot)) × TransitsBy go c.args.system.now answers c.visit.new.system
-    × VisitsUntilRefused g.A.Memory.Refuses g.P.Ports.transition c.args.self.now answers c.visit.new.self) (
-      before.answers ++ broken.0,
-      transits_then go before.answers broken.0 _ _ _ before.transits broken.1,
+    at_error c.from_residual.result ((trace : List (SystemCall g.row.P.Denot)) × TransitsBy go c.args.system.now trace c.visit.new.system
+    × VisitsUntilRefused g.A.Memory.Refuses g.P.Ports.transition c.args.self.now trace c.visit.new.self) (
+      before.trace ++ broken.0,
+      transits_then go before.trace broken.0 _ _ _ before.transits broken.1,
       record {
         visited = before.visited;
         turns = c.loop-turns.turns;
-        before = before.answers;
+        before = before.trace;
         last = broken.0;
         mid = run;
         ready = c.next.new.self;

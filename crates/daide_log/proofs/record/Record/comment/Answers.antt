@@ -11,11 +11,11 @@ returns-then-eq g c =
     let few : c.args.self.now.lines < most_lines = search rules in
     let view : c.args.self.now.text ≡ append_known (g.W.Write.contents c.self.inside.writer) c.deref_mut.result.now.items =
     search rules in
-    let held : c.make_room-self-inside.new.held.items ≡ c.deref_mut-then-eq.result.now.items = search rules in
-    let put = subst (λ (l : List ℕ). c.put_comment.new.line.items ≡ l ++ comment_line c.args.comment) (sym held)
+    let page : c.make_room-self-inside.new.page.items ≡ c.deref_mut-then-eq.result.now.items = search rules in
+    let put = subst (λ (l : List ℕ). c.put_comment.new.line.items ≡ l ++ comment_line c.args.comment) (sym page)
     c.put_comment.ensures in
     let text = page_got (g.W.Write.contents c.self.inside.writer) (g.W.Write.contents c.make_room-self-inside.new.writer)
-    c.args.self.now.text c.deref_mut.result.now.items c.make_room-self-inside.new.held.items c.put_comment.new.line.items
+    c.args.self.now.text c.deref_mut.result.now.items c.make_room-self-inside.new.page.items c.put_comment.new.line.items
     (comment_line c.args.comment) view
     (c.make_room-self-inside.ensures.kept (λ e. absurd (let no : Whole ≡ Failed = sym still ∙ e in cc))) put in
     line_got (HasFailed g.W.Sink.Fails) c.args.self.now _ (comment_line c.args.comment) old still few (search rules) text

@@ -5,6 +5,6 @@ use Rattle.daide_session.proofs.session.Session.head.Goals as goal
 pub returns : goal.returns
 returns g c =
     c.head.ensures
-    ∙ (ap (λ (h : Holding). head_in c.self.inside.channels.cap h.held)
+    ∙ (ap (λ (h : Holding). head_in c.self.inside.channels.cap h.frame_bytes)
     (sym (holding_at c.self.inside.channels c.self.inside.protocol c.args.side))
-    ∙ ap (λ (v : SessionView). head_in v.state.limits.cap (holding v c.args.side).held) c.self.view_is)
+    ∙ ap (λ (v : SessionView). head_in v.state.limits.cap (holding v c.args.side).frame_bytes) c.self.view_is)

@@ -73,8 +73,8 @@ returns-clause-tied g c = λ live free.
     let t = c.self.inside.channels in
     let s = c.self.inside.protocol in
     let side = c.args.side in
-    ap (λ (v : SessionView). (holding v side).held) (sym c.self.view_is)
-    ∙ (ap (λ (h : Holding). h.held) (holding_at t s side)
+    ap (λ (v : SessionView). (holding v side).frame_bytes) (sym c.self.view_is)
+    ∙ (ap (λ (h : Holding). h.frame_bytes) (holding_at t s side)
     ∙ (c.is_awaited.ensures.tied (sym c.is_awaited.ensures.value ∙ c.if-is_awaited.false)
     ∙ (ap (λ (x : Coming). x.pending) (sym (coming_at t s side))
     ∙ ap (λ (v : SessionView). (coming v.state side).pending) c.self.view_is)))

@@ -6,19 +6,19 @@ use Rattle.daide_session.proofs.session.Session.weight.Goals.{After-entries, Aft
 use Rattle.daide_session.proofs.session.Session.weight.Goals as goal
 
 bot : (g : Over) (c : After-entries g) →
-    IsLight c.self.inside.channels.cap c.self.inside.channels.sides.bot.holding.held (length c.body.result.now)
+    IsLight c.self.inside.channels.cap c.self.inside.channels.sides.bot.holding.frame_bytes (length c.body.result.now)
     c.entries.result
 bot g c =
     let t = c.self.inside.channels in
-    light t.cap t.sides.bot.holding.held c.body.result.now c.entries.result c.body.ensures.value c.body.ensures.within
+    light t.cap t.sides.bot.holding.frame_bytes c.body.result.now c.entries.result c.body.ensures.value c.body.ensures.within
     c.body.ensures.capped c.body.ensures.short c.entries.ensures.few
 
 server : (g : Over) (c : After-entries-2 g) →
-    IsLight c.self.inside.channels.cap c.self.inside.channels.sides.server.holding.held (length c.body-2.result.now)
+    IsLight c.self.inside.channels.cap c.self.inside.channels.sides.server.holding.frame_bytes (length c.body-2.result.now)
     c.entries-2.result
 server g c =
     let t = c.self.inside.channels in
-    light t.cap t.sides.server.holding.held c.body-2.result.now c.entries-2.result c.body-2.ensures.value
+    light t.cap t.sides.server.holding.frame_bytes c.body-2.result.now c.entries-2.result c.body-2.ensures.value
     c.body-2.ensures.within c.body-2.ensures.capped c.body-2.ensures.short c.entries-2.ensures.few
 
 pub overflow_add-bot : goal.overflow_add-bot

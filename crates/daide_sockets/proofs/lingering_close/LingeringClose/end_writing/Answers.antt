@@ -4,8 +4,8 @@ use Rattle.daide_buffered_io.proofs.BufferLemmas.{flush_then, unread_then}
 use Rattle.daide_sockets.specs.Lingering.{ClosingStream, IsWriting}
 use Rattle.daide_sockets.proofs.lingering_close.LingeringClose.end_writing.Goals as goal
 
-pub returns-then-is_behind-clause-writes : goal.returns-then-is_behind-clause-writes
-returns-then-is_behind-clause-writes g c = record {
+pub returns-then-has_queued-clause-writes : goal.returns-then-has_queued-clause-writes
+returns-then-has_queued-clause-writes g c = record {
   tried = c.write_on.new.self;
   tries = c.write_on.ensures.tries;
   write_buffer = refl;
@@ -19,7 +19,7 @@ returns-then-is_behind-clause-writes g c = record {
   closes_at = c.write_on.ensures.bound;
   stage = inl (
     subst (λ (o : ClosingStream g.row.S.Denot). IsWriting o.stream) c.self.view_is
-        (c.is_behind.ensures.may c.if-is_behind.true, c.is_behind.ensures.some c.if-is_behind.true),
+        (c.has_queued.ensures.may c.if-has_queued.true, c.has_queued.ensures.some c.if-has_queued.true),
     c.write_on.ensures.stays.1,
   );
 }
@@ -51,7 +51,7 @@ returns-clause-writes g c =
       quota = last.stays.0 ∙ ap (λ (o : ClosingStream g.row.S.Denot). o.quota) c.self.view_is ∙ c.write_on.ensures.stays.0;
       closes_at = last.bound ∙ ap (λ (o : ClosingStream g.row.S.Denot). o.closes_at) c.self.view_is ∙ c.write_on.ensures.bound;
       stage = inr (
-        λ h. last.unwritten.write_buffer ∙ c.is_behind.ensures.none c.if-is_behind.false (sym last.failed ∙ h),
+        λ h. last.unwritten.write_buffer ∙ c.has_queued.ensures.none c.if-has_queued.false (sym last.failed ∙ h),
         search rules,
       );
     }

@@ -10,12 +10,12 @@ returns g c =
       c.poll_time-timeout.result,
       c.poll_time-timeout.ensures,
       record {
-        news = c.poll.new.news.items;
+        socket_events = c.poll.new.socket_events.items;
         polled = c.poll.new.self;
         reading = now;
         polls = c.poll.ensures;
         reads = c.now-now.ensures;
-        table = c.note_now.ensures ∙ ap (λ (t : Table). record t { reading = latest t.reading now }) c.note_news.ensures
+        table = c.note_now.ensures ∙ ap (λ (t : Table). record t { reading = latest t.reading now }) c.note_events.ensures
             ∙ ap (λ (events : List SocketEvent). record before {
               reading = latest before.reading now;
               rows = with_events before.rows events;

@@ -10,5 +10,5 @@ returns-else-count-eq0-clause-in_time g c = record {
     stall = search rules;
     failed = search rules;
   };
-  stall = (rw (← c.behind_len-held.ensures) c.note_put.ensures.waits, c.note_put.ensures.ends);
+  stall = (rw (← c.queued_len-queued.ensures) c.note_put.ensures.waits, c.note_put.ensures.ends);
 }

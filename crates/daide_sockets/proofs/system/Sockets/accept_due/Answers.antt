@@ -37,18 +37,18 @@ returns-in_default-clause-transition g c =
 pub returns-clause-admitted : goal.returns-clause-admitted
 returns-clause-admitted g c = λ _.
     let admitted = c.in-Some.ensures.admitted in
-    rw c.tell_of_session.ensures (admitted.0, admitted.2)
+    rw c.log_session.ensures (admitted.0, admitted.2)
 
 pub returns-clause-transition : goal.returns-clause-transition
 returns-clause-transition g c =
     let asked = c.accept_next.ensures in
-    rw (c.tell_of_session.ensures, asked.same) (λ held. (
+    rw (c.log_session.ensures, asked.same) (λ held. (
       accept_holds _ _ c.args.place _ asked.table held,
       rw asked.same at c.in-Some.ensures.comes,
       (
         record {
           places = ap length (same_deadlines _ _ _ asked.table);
-          bounded = rw c.tell_of_session.ensures at c.is_bounded-2.ensures;
+          bounded = rw c.log_session.ensures at c.is_bounded-2.ensures;
         },
         (
           asked_unpolled g.N.Network.transition c.args.place _ c.args.self.now.acceptor.came 4294967295 _ _ _ _

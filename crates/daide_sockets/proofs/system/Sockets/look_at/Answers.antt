@@ -115,13 +115,13 @@ returns-in-Ok-clause-transition g c =
     let begins = rw (reading, c.take_arrival.ensures.same) at c.in-Ok.ensures.begins in
     let joined = connected_joins c.in-Some.arrival c.advances.new.self _ (c.advances.ensures.reached c.if-advances.false)
     c.in-Ok.ensures.joined in
-    rw (c.tell_of_server.ensures, c.take_arrival.ensures.same) (λ held. (
+    rw (c.log_server.ensures, c.take_arrival.ensures.same) (λ held. (
       connect_holds _ _ c.args.place _ _ lt key table held,
       (c.in-Some.arrival, c.in-Some.ensures.some, joined, refl, refl),
       (
         record {
           places = ap length (same_deadlines _ _ _ table);
-          bounded = rw c.tell_of_server.ensures at c.is_bounded-in-Ok.ensures;
+          bounded = rw c.log_server.ensures at c.is_bounded-in-Ok.ensures;
         },
         (
           tries_unpolled g.N.Network.transition _ _ _ _ _ tries,

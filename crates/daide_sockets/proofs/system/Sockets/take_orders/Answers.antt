@@ -14,23 +14,23 @@ returns-then-has_no_orders-clause-control g c =
     let some = some_status _ _ _ _ _ _ _ in
     (some.0, some.1, c.orders_at_rest.ensures.control some.0 c.args.self.now.poller.table)
 
-pub returns-then-has_no_orders-clause-watched : goal.returns-then-has_no_orders-clause-watched
-returns-then-has_no_orders-clause-watched g c =
-    (c.args.self.now.poller.table, changes_none _ _ _ refl, c.has_no_orders.ensures.watched c.if-has_no_orders.true)
+pub returns-then-has_no_orders-clause-armed : goal.returns-then-has_no_orders-clause-armed
+returns-then-has_no_orders-clause-armed g c =
+    (c.args.self.now.poller.table, changes_none _ _ _ refl, c.has_no_orders.ensures.armed c.if-has_no_orders.true)
 
 pub returns-then-has_no_orders-clause-calls : goal.returns-then-has_no_orders-clause-calls
 returns-then-has_no_orders-clause-calls g c = none g.N.Network.transition _ _ refl
 
 -- the next poll watches it as it is after the listener for bots was closed, or was not
-pub returns-clause-watched : goal.returns-clause-watched
-returns-clause-watched g c =
+pub returns-clause-armed : goal.returns-clause-armed
+returns-clause-armed g c =
     let control = c.begin_control-orders.new.self in
     let same : c.if-is_stopped_now.self.poller.table ≡ control.poller.table =
     elim c.if-is_stopped_now.branch [
       | then-is_stopped_now w ↦ rw w.self-is w.close.ensures.table
       | else-is_stopped_now+else-not-is_closed w ↦ rw w.self-is refl
     ] in
-    (c.if-is_stopped_now.self.poller.table, rw same c.begin_control-orders.ensures.table, c.watch.ensures)
+    (c.if-is_stopped_now.self.poller.table, rw same c.begin_control-orders.ensures.table, c.arm.ensures)
 
 pub returns-clause-calls : goal.returns-clause-calls
 returns-clause-calls g c =

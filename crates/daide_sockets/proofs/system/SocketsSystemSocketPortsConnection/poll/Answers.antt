@@ -1,8 +1,8 @@
 use Rattle.std.proofs.Common.{ℕ, ◌<◌, ◌++◌, refl, sym, ap, ◌∙◌, subst}
 use Rattle.daide_io.specs.ReadyQueue.{ReadyView, woken_all}
 use Rattle.daide_io.proofs.ReadyLemmas.{woken_both}
-use Rattle.daide_sockets.specs.Beside.{listener_watched, others_watched}
-use Rattle.daide_sockets.specs.InTime.{watching_all}
+use Rattle.daide_sockets.specs.Beside.{listener_armed, others_armed}
+use Rattle.daide_sockets.specs.InTime.{arming_all}
 use Rattle.daide_sockets.specs.Rows.{closing_keys}
 use Rattle.daide_sockets.specs.Table.{IsPollTime}
 use Rattle.daide_sockets.specs.declared.control.Control.{Control}
@@ -13,23 +13,23 @@ pub returns-clause-transition : goal.returns-clause-transition
 returns-clause-transition g c =
     let old = c.args.self.now in
     let polled = c.poll_places.ensures.polls in
-    let watches = subst (λ s. IsPollTime c.args.may_block (watching_all s.poller.table (others_watched s.poller.table
-    (listener_watched s.poller.table s.acceptor) s.closings.streams)) polled.2) c.note_capacity.ensures.same polled.3 in
+    let arms = subst (λ s. IsPollTime c.args.may_block (arming_all s.poller.table (others_armed s.poller.table
+    (listener_armed s.poller.table s.acceptor) s.closings.streams)) polled.2) c.note_capacity.ensures.same polled.3 in
     let asleep = rw c.note_capacity.ensures.same at polled.5 in
     let places = rw c.note_capacity.ensures.same at polled.7 in
     let came = rw (c.poll_places.ensures.same, c.note_capacity.ensures.same) at c.tidy.ensures.came in
     let closing = rw (c.poll_places.ensures.same, c.note_capacity.ensures.same) at c.tidy.ensures.closing in
     let control = rw (c.poll_places.ensures.same, c.note_capacity.ensures.same) at c.tidy.ensures.control in
     let rows = rw (c.poll_places.ensures.same, c.note_capacity.ensures.same) at c.tidy.ensures.rows in
-    let watched = c.take_orders-orders.ensures.watched in
+    let armed = c.take_orders-orders.ensures.armed in
     let goes = rw c.tidy.ensures.network at c.take_orders-orders.ensures.calls in
     let more = c.wake_stopped.ensures in
     let all = polls_run g.N.Network.transition polled.2 polled.0 more.0 old.poller.network c.poll_places.new.self.poller.network
     c.take_orders-orders.new.self.poller.network old.poller.table polled.4 polled.6 c.poll_places.new.self.poller.table
-    c.tidy.new.self.poller.table watched.0 c.take_orders-orders.new.self.poller.table (closing_keys old.closings.streams)
-    (closing_keys c.tidy.new.self.closings.streams) c.take_orders-orders.new.self.control asleep places polled.8 rows watched.1
-    watched.2 (others_watched old.poller.table (listener_watched old.poller.table old.acceptor) old.closings.streams)
-    c.args.may_block watches goes in
+    c.tidy.new.self.poller.table armed.0 c.take_orders-orders.new.self.poller.table (closing_keys old.closings.streams)
+    (closing_keys c.tidy.new.self.closings.streams) c.take_orders-orders.new.self.control asleep places polled.8 rows armed.1
+    armed.2 (others_armed old.poller.table (listener_armed old.poller.table old.acceptor) old.closings.streams)
+    c.args.may_block arms goes in
     rw (c.take_orders-orders.ensures.same, c.tidy.ensures.same, c.poll_places.ensures.same, c.note_capacity.ensures.same) (
       polled.0 ++ more.0,
       more.1 ∙ ap (λ (q : ReadyView). woken_all more.0 q) polled.1 ∙ sym (woken_both polled.0 more.0 _),

@@ -8,7 +8,7 @@ use Rattle.daide_log.proofs.CauseLemmas.{late_causes, more_at_err, more_causes}
 use Rattle.daide_log.specs.Log.{Playing, state_after_preamble}
 use Rattle.daide_log.proofs.LogLemmas.{fault_at_once, finished, write_failed}
 use Rattle.daide_log.proofs.PreambleLemmas.{as_many, opened_last, opened_more, memory_wanted}
-use Rattle.daide_log.proofs.check.report.Goals as goal
+use Rattle.daide_log.proofs.check.report_lines.Goals as goal
 
 pub returns-in-Err-clause-reported : goal.returns-in-Err-clause-reported
 returns-in-Err-clause-reported g c = (
@@ -17,7 +17,7 @@ returns-in-Err-clause-reported g c = (
     tt,
     fault_at_once (g.S.Style.form []) (g.R.LogReader.reader_view c.args.input.now.reader.now)
         (g.R.LogReader.reader_view c.read_preamble.new.input.reader.now)
-        (all_of g.W.Write.contents c.args.account.now.output)
+        (all_of g.W.Write.contents c.args.report.now.output)
         (all_of g.W.Write.contents c.read_preamble.new.output) c.in-Err.fault
         (c.in-Err.ensures.opened []) c.in-Err.ensures.kept_at_fault,
   ),
@@ -31,7 +31,7 @@ returns-in-Err-open_sessions-clause-reported g c =
         tt,
         memory_wanted (g.S.Style.form words) c.in-Ok.opened (g.R.LogReader.reader_view c.args.input.now.reader.now)
             (g.R.LogReader.reader_view c.read_preamble.new.input.reader.now)
-            c.read_preamble.new.input.block (all_of g.W.Write.contents c.args.account.now.output)
+            c.read_preamble.new.input.block (all_of g.W.Write.contents c.args.report.now.output)
             (all_of g.W.Write.contents c.read_preamble.new.output) c.in-Err-open_sessions.fault
             c.in-Err-open_sessions.ensures.refused.0 c.in-Ok.ensures.opened c.in-Ok.ensures.kept,
       ),
@@ -70,7 +70,7 @@ returns-then-not-opened-clause-reported g c =
     let words = words_of head.words in
     let old = g.R.LogReader.reader_view c.args.input.now.reader.now in
     let new = g.R.LogReader.reader_view c.read_preamble.new.input.reader.now in
-    let first = all_of g.W.Write.contents c.args.account.now.output in
+    let first = all_of g.W.Write.contents c.args.report.now.output in
     let mid = all_of g.W.Write.contents c.read_preamble.new.output in
     let read : HasReadAll (g.S.Style.form words) first old new c.in-Ok.opened.lines [] (state_after_preamble (preamble_of head)) =
     opened_last (g.S.Style.form words) c.in-Ok.opened first old new c.read_preamble.new.input.block (ap not c.if-not-opened.true)
@@ -79,13 +79,13 @@ returns-then-not-opened-clause-reported g c =
       (
         finished (g.S.Style.form words) old new c.in-Ok.opened.lines []
             head.version (replicate head.limits.sessions (initial_state (limits_with head.limits.config words)))
-            c.args.account.now.summary first mid (all_of g.W.Write.contents c.finish.new.account.output)
+            c.args.report.now.summary first mid (all_of g.W.Write.contents c.finish.new.report.output)
             c.finish.result read
             c.requires.nothing (keeps_appends first mid c.in-Ok.ensures.kept)
             (subst (λ (l : List SessionState). IfOk c.finish.result (λ answer. IsFinished (g.S.Style.form words) None head.version l
-            c.args.account.now.summary mid (all_of g.W.Write.contents c.finish.new.account.output) answer))
+            c.args.report.now.summary mid (all_of g.W.Write.contents c.finish.new.report.output) answer))
             (ap states_of c.deref.ensures.value ∙ c.in-Ok-open_sessions.ensures.begun) c.finish.ensures.written),
-        write_failed (g.S.Style.form words) (HasFailed g.W.Sink.Fails) g.S.Style.refused old new first (all_of g.W.Write.contents c.finish.new.account.output) c.finish.result
+        write_failed (g.S.Style.form words) (HasFailed g.W.Sink.Fails) g.S.Style.refused old new first (all_of g.W.Write.contents c.finish.new.report.output) c.finish.result
             (read.given, read.gives) c.finish.ensures.refused,
       ),
     )
@@ -112,7 +112,7 @@ returns-clause-reported g c =
     let words = words_of head.words in
     let old = g.R.LogReader.reader_view c.args.input.now.reader.now in
     let now = g.R.LogReader.reader_view c.read_preamble.new.input.reader.now in
-    let first = all_of g.W.Write.contents c.args.account.now.output in
+    let first = all_of g.W.Write.contents c.args.report.now.output in
     let read = subst (λ (s : List SessionState). HasRead (g.S.Style.form words) first old now
     c.read_preamble.new.input.block c.in-Ok.opened.lines []
     (Playing head.version s)) (sym c.in-Ok-open_sessions.ensures.begun)

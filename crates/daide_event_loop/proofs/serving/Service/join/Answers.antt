@@ -8,13 +8,13 @@ use Rattle.daide_driver.specs.Slab.{SlabView, is_at, is_kept, OpensAt}
 use Rattle.daide_event_loop.specs.QuotaPorts.{QuotaPortsView}
 use Rattle.daide_event_loop.specs.Serving.{ServiceView, VisitsPlace, IsRefusedAt}
 use Rattle.daide_event_loop.proofs.VisitLemmas.{passed_over, kept_in, visited_kept, opened_there}
-use Rattle.daide_event_loop.proofs.serving.Service.meet.Goals as goal
+use Rattle.daide_event_loop.proofs.serving.Service.join.Goals as goal
 
 -- the visit, and then the calls of the system
 abbrev Visited : {P S : Type 0} → (P → PortCall → P → Type 0) → (S → SystemCall P → S → Type 0) → S → ServiceView P → ℕ → ℕ →
     ServiceView P → S → Type 0
 Visited {P} port_transition transition first old place turns new system =
-    (answers : List (SystemCall P)) × TransitsBy transition first answers system × VisitsPlace port_transition old place turns answers new
+    (trace : List (SystemCall P)) × TransitsBy transition first trace system × VisitsPlace port_transition old place turns trace new
 
 pub returns-then-not-is_kept-clause-visits : goal.returns-then-not-is_kept-clause-visits
 returns-then-not-is_kept-clause-visits g c =
@@ -59,9 +59,9 @@ returns-in-Failed-clause-visits g c =
       ready = c.self.inside.ready;
     } in
     subst (λ (old : ServiceView g.row.P.Denot). Visited g.P.Ports.transition g.S.System.transition c.args.system.now old c.args.place 1
-    (record run { slab = c.give_up.new.self }) c.tell.new.self) c.self.view_is (
+    (record run { slab = c.give_up.new.self }) c.log.new.self) c.self.view_is (
       Connects c.args.place Failed ∷ Notifies CannotReach ∷ [],
-      (c.connected.new.self, c.in-Failed.ensures, (c.tell.new.self, c.tell.ensures, refl)),
+      (c.connected.new.self, c.in-Failed.ensures, (c.log.new.self, c.log.ensures, refl)),
       visited_kept g.P.Ports.transition run c.args.place 1 Failed (Notifies CannotReach ∷ []) (record run { slab = c.give_up.new.self })
           kept (refl, refl, ap (λ (slab : SlabView (QuotaPortsView g.row.P.Denot)). record run { slab = slab }) c.give_up.ensures),
     )
@@ -95,9 +95,9 @@ returns-in-Err-clause-broken_off g c =
       counters = c.self.inside.counters;
       ready = c.self.inside.ready;
     } in
-    subst (λ (old : ServiceView g.row.P.Denot). (answers : List (SystemCall g.row.P.Denot))
-    × TransitsBy g.S.System.transition c.args.system.now answers c.connected.new.self
-    × IsRefusedAt g.A.Memory.Refuses old c.args.place answers (record run { slab = c.open.new.self })) c.self.view_is (
+    subst (λ (old : ServiceView g.row.P.Denot). (trace : List (SystemCall g.row.P.Denot))
+    × TransitsBy g.S.System.transition c.args.system.now trace c.connected.new.self
+    × IsRefusedAt g.A.Memory.Refuses old c.args.place trace (record run { slab = c.open.new.self })) c.self.view_is (
       Connects c.args.place (Ready ports) ∷ [],
       (c.connected.new.self, c.in-Ready.ensures, refl),
       record {
