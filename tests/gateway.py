@@ -206,8 +206,9 @@ STAYS_SILENT = [
     HearsEnd(Server(0)),
 ]
 
-# The first turn of the session finds nothing. It has no other for the bot's IM.
-HEARS_THE_END = [*joins(), Passes(100), Says(Bot(0), IM), HearsEnd(Bot(0)), HearsEnd(Server(0))]
+# The first turn of the session finds nothing. It has no other, so the next one stops it before the IM is read: the bot gets an
+# FM, and the server, which got no IM, gets none.
+HEARS_THE_END = [*joins(), Passes(100), Says(Bot(0), IM), Hears(Bot(0), FM), HearsEnd(Bot(0)), HearsEnd(Server(0))]
 
 # A bot that sends its IM and ends its session at once, and a server that accepts the connection after the run has
 # ended.

@@ -133,6 +133,15 @@ class OnADisk(Recorded):
         return super().conditions(("sh", "-c", "trap '' XFSZ && exec \"$@\"", "sh", *watcher))
 
 
+class Stopped(Recorded):
+    """A scene with a record whose last line is a stop."""
+
+    def check(self, lines, said, name):
+        """Checks the bytes, and the last line."""
+        super().check(lines, said, name)
+        same(lines[-1], "1 stop", f"the last line of {name}")
+
+
 class Left(Scene):
     """A scene beside a file that somebody made, which is left as it is."""
 
@@ -305,8 +314,6 @@ KEEPS_EACH_END = (
     *((IM + said, RM) if who is Bot else (IM, RM + said) for who, said, *_ in ENDINGS),
     (b"", b""),
 )
-
-SPENT = "daide-gate: turns spent\n"
 
 TELLS_SPENT = """\
 daide-gate: session 1 began: bot at 127.0.0.1:{0}
@@ -482,8 +489,8 @@ SCENES = [
         "each_cause_of_an_end_is_told", END_IN_EACH_WAY, f"sessions = {LAST + 1}\nim_seconds = 1", TELLS_EACH_END,
         verbose=True, recorded=LAST + 1, kept=KEEPS_EACH_END,
     ),
-    Recorded(
-        "spent_turns_of_a_recorded_session_are_told", HEARS_THE_END, "turns = 1", SPENT, recorded=1,
+    Stopped(
+        "spent_turns_of_a_recorded_session_are_told", HEARS_THE_END, "turns = 1", TELLS_SPENT, verbose=True, recorded=1,
         kept=((b"", b""),),
     ),
     Scene("verbose_run_tells_of_spent_turns", HEARS_THE_END, "turns = 1", TELLS_SPENT, verbose=True),

@@ -2,6 +2,7 @@ pub mod AnswerWork
 pub mod Stretches
 pub mod PortCalls
 pub mod TurnLemmas
+pub mod MeterLemmas
 pub mod Standing
 pub mod RelayLemmas
 pub mod HubLemmas

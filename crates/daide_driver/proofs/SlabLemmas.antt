@@ -6,10 +6,9 @@ use Rattle.std.proofs.lemmas.Bool.Decides.{eqb_tells}
 use Rattle.std.proofs.lemmas.List.{map-set, length-map}
 use Rattle.std.proofs.lemmas.Option.{slice_get-map, slice_get_within, slice_get_read}
 use Rattle.daide_protocol.specs.Machine.{Limits}
-use Rattle.daide_protocol.specs.Wires.{SessionView}
 use Rattle.daide_driver.specs.declared.place.SlabPlace.{SlabPlace}
 use Rattle.daide_driver.specs.declared.place.SlabPlace.TheVariants.{Free, Kept, Held}
-use Rattle.daide_driver.specs.Slab.{SlabView, is_free_place, is_kept, is_held, is_so, is_at, held_as, all_free, IsNoneFree, IsNextFree, IsAt, with_place}
+use Rattle.daide_driver.specs.Slab.{SlabView, SlotView, is_free_place, is_kept, is_held, is_so, is_at, held_as, all_free, IsNoneFree, IsNextFree, IsAt, with_place}
 
 -- ---- lists
 
@@ -63,10 +62,10 @@ module _ {T : Type 0} where
 -- ---- the abstract places
 
 -- the value of a slab with these items
-abbrev viewed : {X P : Type 0} → (X → SessionView × P) → Limits → List (SlabPlace X) → SlabView P
+abbrev viewed : {X P : Type 0} → (X → SlotView P) → Limits → List (SlabPlace X) → SlabView P
 viewed f limits items = record { limits = limits; places = map (held_as f) items }
 
-module _ {X P : Type 0} (f : X → SessionView × P) (limits : Limits) (items : List (SlabPlace X)) (now : SlabView P)
+module _ {X P : Type 0} (f : X → SlotView P) (limits : Limits) (items : List (SlabPlace X)) (now : SlabView P)
     (is : viewed f limits items ≡ now) where
   -- a place of the value is that of the items
   seen : (i : ℕ) → option_map (held_as f) (slice_get items i) ≡ slice_get now.places i
@@ -96,7 +95,7 @@ module _ {X P : Type 0} (f : X → SessionView × P) (limits : Limits) (items : 
   none_free next past (inr full) k h = full.1 k (free_item (slice_get items k) (seen k ∙ h))
 
   -- a place of the value is one of the items
-  pub place_in : (i : ℕ) (p : SlabPlace (SessionView × P)) → IsAt now i p → i < length items
+  pub place_in : (i : ℕ) (p : SlabPlace (SlotView P)) → IsAt now i p → i < length items
   place_in i p at =
       let inside : i < length now.places = slice_get_within now.places i p at in
       let same : length (map (held_as f) items) ≡ length now.places = ap (λ (s : SlabView P). length s.places) is in
@@ -119,7 +118,7 @@ module _ {X P : Type 0} (f : X → SessionView × P) (limits : Limits) (items : 
   held_at i x slot e read same = sym (seen i) ∙ ap (option_map (held_as f)) (item_held i x slot e read same)
 
   pub same_held : (i : ℕ) (x : SlabPlace X) (slot : X) → is_at is_held now.places i ≡ true → x ≡ get_or items i x → x ≡ Held slot →
-      (held : SessionView × P) → IsAt now i (Held held) → f slot ≡ held
+      (held : SlotView P) → IsAt now i (Held held) → f slot ≡ held
   same_held i x slot e read same held at =
       let own : IsAt now i (Held (f slot)) = held_at i x slot e read same in cc
 
@@ -136,10 +135,10 @@ module _ {X P : Type 0} (f : X → SessionView × P) (limits : Limits) (items : 
   pub place_set : (i : ℕ) (x : SlabPlace X) → viewed f limits (set items i x) ≡ with_place now i (held_as f x)
   place_set i x =
       subst (λ (s : SlabView P). viewed f limits (set items i x) ≡ with_place s i (held_as f x)) is
-      (ap (λ (ps : List (SlabPlace (SessionView × P))). record { limits = limits; places = ps }) (map-set (held_as f) items i x))
+      (ap (λ (ps : List (SlabPlace (SlotView P))). record { limits = limits; places = ps }) (map-set (held_as f) items i x))
 
   -- whether this is so of a place, and of each place
-  tested : (one : SlabPlace (SessionView × P) → Bool) (other : SlabPlace X → Bool) →
+  tested : (one : SlabPlace (SlotView P) → Bool) (other : SlabPlace X → Bool) →
       ((x : SlabPlace X) → one (held_as f x) ≡ other x) → (i : ℕ) (x : Option (SlabPlace X)) → slice_get items i ≡ x →
       is_so other x ≡ is_at one now.places i
   tested one other same i x at =
@@ -197,12 +196,12 @@ all_free_next zero = inr (omega arith, λ k h. absurd (cc))
 all_free_next (suc n) = inl refl
 
 -- the value of a new slab
-pub opening : {X P : Type 0} (f : X → SessionView × P) (limits : Limits) (items : List (SlabPlace X)) (n max : ℕ) →
+pub opening : {X P : Type 0} (f : X → SlotView P) (limits : Limits) (items : List (SlabPlace X)) (n max : ℕ) →
     items ≡ all_free n → n ≡ max → viewed f limits items ≡ record { limits = limits; places = all_free max }
 opening {P = P} f limits items n max e same =
-    ap (λ (ps : List (SlabPlace (SessionView × P))). record { limits = limits; places = ps })
+    ap (λ (ps : List (SlabPlace (SlotView P))). record { limits = limits; places = ps })
     (ap (map (held_as f)) e ∙ seen_free n ∙ ap (λ (k : ℕ). all_free k) same)
   where
     seen_free : (k : ℕ) → map (held_as f) (all_free k) ≡ all_free k
     seen_free zero = refl
-    seen_free (suc k) = ap (λ (ps : List (SlabPlace (SessionView × P))). Free ∷ ps) (seen_free k)
+    seen_free (suc k) = ap (λ (ps : List (SlabPlace (SlotView P))). Free ∷ ps) (seen_free k)

@@ -4,6 +4,7 @@ pub mod Headline
 pub mod Totals
 pub mod Whole
 pub mod Relay
+pub mod Meter
 pub mod Hub
 pub mod Slab
 pub mod HubRuns

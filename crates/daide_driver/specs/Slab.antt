@@ -1,7 +1,12 @@
--- Sessions at places that they keep: the state of a slab, and the effect of each call on one place. (own)
+-- Sessions at places that they keep, each with its ports and its meter: the state of a slab, and the effect of each call on
+-- one place. (own)
 use Rattle.std.specs.Prelude.{◌≡◌, ◌≤◌, ◌⊎◌, ℕ, zero, suc, Bool, true, false, List, [], ◌∷◌, length, Option, Some, None, slice_get, slice_set}
-use Rattle.daide_protocol.specs.Machine.{Limits}
+use Rattle.daide_protocol.specs.Machine.{Limits, is_over}
 use Rattle.daide_protocol.specs.Wires.{SessionView, IsNew}
+use Rattle.daide_io.specs.Ports.{PortCall, TurnBegins}
+use Rattle.daide_driver.specs.declared.meter.Meter.{Meter}
+use Rattle.daide_driver.specs.Hub.{IsTurned}
+use Rattle.daide_driver.specs.Meter.{new_meter, metered, is_stopped_by, StopsIf}
 use Rattle.daide_driver.specs.declared.place.SlabPlace.{SlabPlace}
 use Rattle.daide_driver.specs.declared.place.SlabPlace.TheVariants.{Free, Kept, Held}
 
@@ -54,40 +59,69 @@ is_at test places place = is_so test (slice_get places place)
 abbrev pub IfHeldAt : {T : Type 0} → List (SlabPlace T) → ℕ → (T → Type 0) → Type 0
 IfHeldAt {T} places place Holds = (held : T) → slice_get places place ≡ Some (Held held) → Holds held
 
+-- ---- a slot
+
+-- a session, its ports, and its meter
+pub record SlotView (P : Type 0) : Type 0 where
+  pub session : SessionView
+  pub ports : P
+  pub meter : Meter
+
+-- a session with these ports, and a full quota of turns
+abbrev pub new_slot : {P : Type 0} → SessionView → P → ℕ → SlotView P
+new_slot session ports turns = record { session = session; ports = ports; meter = new_meter turns }
+
+-- the session of a slot is over
+abbrev pub is_slot_over : {P : Type 0} → SlotView P → Bool
+is_slot_over slot = is_over slot.session.state.phase
+
+-- a turn begins with the lent ports; the session and its meter are unchanged
+pub record IsSlotBegun {P : Type 0} (transition : P → PortCall → P → Type 0) (old new : SlotView P) : Type 0 where
+  pub session : new.session ≡ old.session
+  pub ports : transition old.ports TurnBegins new.ports
+  pub meter : new.meter ≡ old.meter
+
+-- A session has one turn with its ports. By the same trace its meter goes on; and the clock stops a session that is open and
+-- has no turn left.
+pub record IsSlotTurned {P : Type 0} (transition : P → PortCall → P → Type 0) (old new : SlotView P) : Type 0 where
+  pub turned : IsTurned transition (old.session, old.ports) (new.session, new.ports)
+  pub meter : new.meter ≡ metered (is_slot_over old) turned.exchange.call old.meter
+  pub stops : StopsIf (is_stopped_by (is_slot_over old) old.meter) turned.exchange.call
+
 -- ---- a slab
 
 -- the limits of its sessions, and its places, whose number never changes: a place that is held has a session with its ports
+-- and its meter
 pub record SlabView (P : Type 0) : Type 0 where
   pub limits : Limits
-  pub places : List (SlabPlace (SessionView × P))
+  pub places : List (SlabPlace (SlotView P))
 
 -- this is at a place
-abbrev pub IsAt : {P : Type 0} → SlabView P → ℕ → SlabPlace (SessionView × P) → Type 0
+abbrev pub IsAt : {P : Type 0} → SlabView P → ℕ → SlabPlace (SlotView P) → Type 0
 IsAt slab place now = slice_get slab.places place ≡ Some now
 
 -- the same with something else at one place
-abbrev pub with_place : {P : Type 0} → SlabView P → ℕ → SlabPlace (SessionView × P) → SlabView P
+abbrev pub with_place : {P : Type 0} → SlabView P → ℕ → SlabPlace (SlotView P) → SlabView P
 with_place slab place now = record slab { places = slice_set slab.places place now }
 
--- the same with other ports at one place; its session stays
-abbrev pub with_ports_in : {P : Type 0} → SlabView P → ℕ → Option (SlabPlace (SessionView × P)) → P → SlabView P
+-- the same with other ports at one place; its session and its meter stay
+abbrev pub with_ports_in : {P : Type 0} → SlabView P → ℕ → Option (SlabPlace (SlotView P)) → P → SlabView P
 with_ports_in slab place None ports = slab
 with_ports_in slab place (Some Free) ports = slab
 with_ports_in slab place (Some Kept) ports = slab
-with_ports_in slab place (Some (Held item)) ports = with_place slab place (Held (item.0, ports))
+with_ports_in slab place (Some (Held item)) ports = with_place slab place (Held (record item { ports = ports }))
 
 abbrev pub with_ports_at_place : {P : Type 0} → SlabView P → ℕ → P → SlabView P
 with_ports_at_place slab place ports = with_ports_in slab place (slice_get slab.places place) ports
 
 -- ---- calls
 
--- a session in its opening state is at a place that was kept, with the given ports
-abbrev pub OpensAt : {P : Type 0} → SlabView P → ℕ → P → SlabView P → Type 0
-OpensAt old place ports new =
-    (opened : SessionView) × IsNew old.limits opened × (new ≡ with_place old place (Held (opened, ports)))
+-- a session in its opening state is at a place that was kept, with the given ports and a full quota of turns
+abbrev pub OpensAt : {P : Type 0} → SlabView P → ℕ → P → ℕ → SlabView P → Type 0
+OpensAt old place ports turns new = (opened : SessionView) × IsNew old.limits opened
+    × (new ≡ with_place old place (Held (new_slot opened ports turns)))
 
--- The session and the ports at this place went from one pair to another, by a call of this kind; every other place is
--- unchanged.
-abbrev pub ChangesAt : {P : Type 0} → (SessionView × P → SessionView × P → Type 0) → SlabView P → ℕ → SlabView P → Type 0
-ChangesAt {P} Kind old place new = (before : SessionView × P) × (after : SessionView × P) × IsAt old place (Held before)
+-- The slot at this place went from one value to another, by a call of this kind; every other place is unchanged.
+abbrev pub ChangesAt : {P : Type 0} → (SlotView P → SlotView P → Type 0) → SlabView P → ℕ → SlabView P → Type 0
+ChangesAt {P} Kind old place new = (before : SlotView P) × (after : SlotView P) × IsAt old place (Held before)
     × (new ≡ with_place old place (Held after)) × Kind before after

@@ -14,9 +14,9 @@ ghost use Rattle.daide_driver.specs.Hub.{HubView, IsHubCause, IsAddCause, AddsSe
 ghost use Rattle.std.specs.Borrow.{Lends, sem};
 ghost use Rattle.daide_driver.specs.Hub.{IsReportedOf, with_ports, weight_at, session_bound};
 
+use crate::meter::Moved;
 pub use crate::slot::Removed;
-use crate::slot::SessionSlot;
-use crate::turn_io::BUFFER;
+use crate::turn_io::{BUFFER, turn_through};
 use daide_frame::memory::Memory;
 use daide_io::ports::Ports;
 use daide_protocol::bounds::MAX_SESSIONS;
@@ -46,6 +46,30 @@ pub enum AddFault {
     Memory,
 }
 
+/// A session and its ports.
+#[derive(Drop)]
+struct HubPlace<P: Ports, A: Allocator> {
+    session: Session<A>,
+    ports: P,
+}
+
+impl<P: Ports, A: Allocator> HubPlace<P, A> {
+    /// Makes one turn of the session with its ports, by the clauses of `turn`.
+    #[inline(always)]
+    fn turn(&mut self, buffer: &mut [u8; BUFFER])
+        ensures { IsTurned P.transition (self.old.session, self.old.ports) (self.new.session, self.new.ports) }
+    {
+        let mut moved = Moved::nothing();
+        turn_through(
+            &mut self.session,
+            &mut self.ports,
+            false,
+            &mut moved,
+            buffer,
+        );
+    }
+}
+
 /// Sessions in one loop. The abstract value has the limits of the sessions, their maximum number, and at each place the
 /// value of a session and its ports. All turns share one buffer, so that no turn has to clear a new one.
 #[derive(Drop)]
@@ -54,7 +78,7 @@ pub struct Hub<P: Ports, A: Allocator = Global> {
     limits: SessionLimits,
     words: Words,
     max: usize,
-    places: Vec<SessionSlot<P, A>, A>,
+    places: Vec<HubPlace<P, A>, A>,
     buffer: [u8; BUFFER],
 }
 
@@ -145,7 +169,7 @@ impl<P: Ports, A: Memory + Copy> Hub<P, A> {
         let Ok(session) = Session::with_limits(self.alloc, self.limits, self.words) else {
             return Err((AddFault::Memory, ports));
         };
-        self.places.push_reserved(SessionSlot { session, ports });
+        self.places.push_reserved(HubPlace { session, ports });
         Ok(place)
     }
 }
@@ -234,6 +258,7 @@ impl<P: Ports, A: Allocator + Copy> Hub<P, A> {
             return None;
         }
         let slot = self.places.remove(i);
-        Some(slot.into_removed())
+        let HubPlace { session, ports } = slot;
+        Some(Removed::from_closed(session, ports))
     }
 }

@@ -1,4 +1,4 @@
-//! Sessions with their ports at places that they keep until they end.
+//! Sessions with their ports and their meters at places that they keep until they end.
 //!
 //! A place is free, or kept for a session that is to come, or has a session. A session never moves, so its place is its
 //! name in a run. All places are reserved at once, so a new session allocates only its two bodies.
@@ -8,11 +8,12 @@ ghost use Rattle.std.specs.List.{list_all};
 ghost use Rattle.daide_protocol.specs.Config.{limits_with};
 ghost use Rattle.daide_protocol.specs.Wires.{is_closed};
 ghost use Rattle.daide_words.specs.Words.{words_of};
-ghost use Rattle.daide_driver.specs.Hub.{IsTurned, IsReportedOf};
+ghost use Rattle.daide_driver.specs.Hub.{IsReportedOf};
 ghost use Rattle.daide_driver.specs.Slab.{SlabView, all_free, is_free_place, is_kept, is_held, is_at, IfHeldAt, IsAt, IsNoneFree, IsNextFree};
-ghost use Rattle.daide_driver.specs.Slab.{with_place, with_ports_at_place, OpensAt, ChangesAt};
+ghost use Rattle.daide_driver.specs.Slab.{with_place, with_ports_at_place, OpensAt, ChangesAt, IsSlotTurned};
 ghost use Rattle.std.specs.Borrow.{Lends, sem};
 
+use crate::meter::Meter;
 use crate::place::SlabPlace;
 use crate::slot::{Removed, SessionSlot};
 use crate::turn_io::BUFFER;
@@ -25,8 +26,8 @@ use std::alloc::{AllocError, Allocator, Global};
 use std::marker::Model;
 use std::mem;
 
-/// Sessions at places. The abstract value has the limits of the sessions, and at each place the value of a session and its
-/// ports, if it has one. All turns share one buffer, so that no turn has to clear a new one.
+/// Sessions at places. The abstract value has the limits of the sessions, and at each place the value of a session, its ports
+/// and its meter, if it has one. All turns share one buffer, so that no turn has to clear a new one.
 #[derive(Drop)]
 pub struct Slab<P: Ports, A: Allocator = Global> {
     alloc: A,
@@ -48,7 +49,7 @@ impl<P: Ports, A: Allocator> Model for Slab<P, A> {
 
     ghost view = { λ s. record {
       limits = limits_with s.limits.config (words_of s.words);
-      places = map (held_as (λ slot. (slot.session, slot.ports))) s.places.items;
+      places = map (held_as (λ slot. record { session = slot.session; ports = slot.ports; meter = slot.meter })) s.places.items;
     } };
 
     ghost invariant = { λ s. IsNextFree s.places.items s.next };
@@ -80,11 +81,11 @@ impl<P: Ports, A: Memory + Copy> Slab<P, A> {
         })
     }
 
-    /// Begins a session with these ports at a place that was kept. If the allocator refuses a body, nothing changes and the
-    /// ports come back.
-    pub fn open(&mut self, place: usize, ports: P) -> Result<(), P>
+    /// Begins a session with these ports and this quota of turns at a place that was kept. If the allocator refuses a body,
+    /// nothing changes and the ports come back.
+    pub fn open(&mut self, place: usize, ports: P, turns: u64) -> Result<(), P>
         requires { IsAt self.old place SlabPlace.Kept }
-        ensures opens { OnOk result (OpensAt self.old place ports self.new) }
+        ensures opens { OnOk result (OpensAt self.old place ports turns self.new) }
         ensures refused { OnErr result (A.Refuses self.old.limits.cap) }
         ensures unchanged { OnErr result (self.new ≡ self.old) }
         ensures ports_back { IfErr result (λ back. back ≡ ports) }
@@ -92,7 +93,12 @@ impl<P: Ports, A: Memory + Copy> Slab<P, A> {
         let Ok(session) = Session::with_limits(self.alloc, self.limits, self.words) else {
             return Err(ports);
         };
-        self.places[place] = SlabPlace::Held(SessionSlot { session, ports });
+        let meter = Meter::new(turns);
+        self.places[place] = SlabPlace::Held(SessionSlot {
+            session,
+            ports,
+            meter,
+        });
         Ok(())
     }
 }
@@ -181,40 +187,53 @@ impl<P: Ports, A: Allocator + Copy> Slab<P, A> {
     #[inline(always)]
     pub fn session(&self, place: usize) -> &Session<A>
         requires { is_at is_held self.now.places place ≡ true }
-        ensures { IfHeldAt self.now.places place (λ item. result.now ≡ item.0) }
+        ensures { IfHeldAt self.now.places place (λ item. result.now ≡ item.session) }
     {
         &self.places[place].item().session
+    }
+
+    /// Returns the meter of the session at a place.
+    #[inline(always)]
+    pub fn meter(&self, place: usize) -> Meter
+        requires { is_at is_held self.now.places place ≡ true }
+        ensures { IfHeldAt self.now.places place (λ held. result ≡ held.meter) }
+    {
+        self.places[place].item().meter
     }
 
     /// Returns the ports of the session at a place.
     #[inline(always)]
     pub fn ports(&self, place: usize) -> &P
         requires { is_at is_held self.now.places place ≡ true }
-        ensures { IfHeldAt self.now.places place (λ item. result.now ≡ item.1) }
+        ensures { IfHeldAt self.now.places place (λ item. result.now ≡ item.ports) }
     {
         &self.places[place].item().ports
     }
 
     /// Lends the ports of the session at a place, to begin a turn with them.
     ///
-    /// `writes_back`: when the loan ends, the place has the ports as they were left. Its session, the other places and
-    /// the limits are unchanged.
+    /// `writes_back`: when the loan ends, the place has the ports as they were left. Its session, its meter, the other places
+    /// and the limits are unchanged.
     #[inline(always)]
     pub fn ports_mut(&mut self, place: usize) -> &mut P
         requires { is_at is_held self.old.places place ≡ true }
         ensures* writes_back { sem 𝓛 (Lends (the_row P.row A.row P.Ports A.Allocator) P.row self.entry result
             (with_ports_at_place self.old place)) }
-        ensures value { IfHeldAt self.old.places place (λ item. result.now ≡ item.1) }
+        ensures value { IfHeldAt self.old.places place (λ item. result.now ≡ item.ports) }
     {
         let lent = self.places[place].item_mut();
         &mut lent.ports
     }
 
-    /// Makes one turn of the session at a place with its ports, by the clauses of `turn`. Every other place is unchanged.
+    /// Makes one turn of the session at a place with its ports, by the clauses of `turn`, and counts it. Every other place is
+    /// unchanged.
+    ///
+    /// A turn of an open session takes one of its turns left. If none is left, its clock reports a stop, so the session ends
+    /// as if the operator stopped it: with an FM to each side.
     #[inline(always)]
     pub fn turn(&mut self, place: usize)
         requires { is_at is_held self.old.places place ≡ true }
-        ensures { ChangesAt (IsTurned P.transition) self.old place self.new }
+        ensures { ChangesAt (IsSlotTurned P.transition) self.old place self.new }
     {
         self.places[place].item_mut().turn(&mut self.buffer);
     }
@@ -226,16 +245,23 @@ impl<P: Ports, A: Allocator + Copy> Slab<P, A> {
     #[inline(never)]
     pub fn remove(&mut self, place: usize) -> Removed<P>
         requires held { is_at is_held self.old.places place ≡ true }
-        requires closed { IfHeldAt self.old.places place (λ item. is_closed item.0 ≡ true) }
+        requires closed { IfHeldAt self.old.places place (λ item. is_closed item.session ≡ true) }
         ensures frees { self.new ≡ with_place self.old place SlabPlace.Free }
-        ensures ports { IfHeldAt self.old.places place (λ item. result.ports ≡ item.1) }
+        ensures ports { IfHeldAt self.old.places place (λ item. result.ports ≡ item.ports) }
         ensures reported { IfHeldAt self.old.places place
-            (λ item. IsReportedOf item.0 result.account result.ending result.fault_field) }
+            (λ item. IsReportedOf item.session result.account result.ending result.fault_field) }
     {
         let taken = mem::replace(&mut self.places[place], SlabPlace::Free);
         self.next = place;
         match taken {
-            SlabPlace::Held(slot) => slot.into_removed(),
+            SlabPlace::Held(slot) => {
+                let SessionSlot {
+                    session,
+                    ports,
+                    meter: _,
+                } = slot;
+                Removed::from_closed(session, ports)
+            }
             _ => unreachable!(),
         }
     }

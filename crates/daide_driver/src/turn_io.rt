@@ -10,11 +10,13 @@ ghost use Rattle.daide_reader.specs.Reading.{IsRaised};
 ghost use Rattle.daide_frame.specs.Side.{other};
 ghost use Rattle.daide_protocol.specs.Wires.{holding, room_of, AsksNothing};
 ghost use Rattle.daide_protocol.specs.Weight.{weight_of, weight_bound};
+ghost use Rattle.daide_driver.specs.Meter.{nothing_moved, Moving, Stopping};
 ghost use Rattle.daide_driver.specs.Record.{EvolveTogether};
 ghost use Rattle.daide_driver.specs.Totals.{Working};
 ghost use Rattle.daide_driver.specs.Turn.{AsksClock, Puts, Pulls, AsksAtMost, most_pulled, turn_steps};
 ghost use Rattle.daide_driver.specs.Whole.{WholeTurn};
 
+use crate::meter::Moved;
 use daide_frame::side::Side;
 use daide_io::ports::{ClockEvent, Ports, Pull, Put};
 use daide_session::session::Session;
@@ -23,13 +25,21 @@ use std::alloc::Allocator;
 /// The most bytes that a turn reads from a side.
 pub(crate) const BUFFER: usize = 512;
 
-/// Reads the clock, and reports an expired IM timer or a stop to the session.
-fn ask_clock<A: Allocator, P: Ports>(session: &mut Session<A>, ports: &mut P)
-    ensures clock { EvolveTogether P.transition (Working AsksClock) (session.old, ports.old) (session.new, ports.new) }
+/// Reads the clock, and reports an expired IM timer or a stop to the session. If its turns are spent, it is a stop.
+fn ask_clock<A: Allocator, P: Ports>(
+    session: &mut Session<A>,
+    ports: &mut P,
+    is_spent: bool,
+    moved: &mut Moved,
+)
+    ensures clock { EvolveTogether P.transition (Stopping is_spent (Moving moved.old moved.new (Working AsksClock)))
+        (session.old, ports.old) (session.new, ports.new) }
     ensures asks_nothing { AsksNothing session.old session.new }
     ensures limits { session.new.state.limits ≡ session.old.state.limits }
 {
-    match ports.clock() {
+    let event = ports.clock(is_spent);
+    moved.add_clock(event);
+    match event {
         ClockEvent::NoEvent => {}
         ClockEvent::ImTimeIsOver => {
             session.im_timeout();
@@ -42,8 +52,14 @@ fn ask_clock<A: Allocator, P: Ports>(session: &mut Session<A>, ports: &mut P)
 
 /// Puts the whole front of a send queue to its wire.
 #[inline(always)]
-fn put_front<A: Allocator, P: Ports>(session: &mut Session<A>, ports: &mut P, side: Side)
-    ensures puts { EvolveTogether P.transition (Working (Puts side)) (session.old, ports.old) (session.new, ports.new) }
+fn put_front<A: Allocator, P: Ports>(
+    session: &mut Session<A>,
+    ports: &mut P,
+    side: Side,
+    moved: &mut Moved,
+)
+    ensures puts { EvolveTogether P.transition (Moving moved.old moved.new (Working (Puts side))) (session.old, ports.old)
+        (session.new, ports.new) }
     ensures asks_nothing { AsksNothing session.old session.new }
     ensures limits { session.new.state.limits ≡ session.old.state.limits }
 {
@@ -51,7 +67,9 @@ fn put_front<A: Allocator, P: Ports>(session: &mut Session<A>, ports: &mut P, si
     if front.is_empty() {
         return;
     }
-    match ports.put(side, front) {
+    let put = ports.put(side, front);
+    moved.add_put(side, put);
+    match put {
         Put::Took(n) => session.wrote(side, n),
         Put::Failed => session.lost(side),
     }
@@ -63,16 +81,20 @@ fn pull_into<A: Allocator, P: Ports>(
     session: &mut Session<A>,
     ports: &mut P,
     side: Side,
+    moved: &mut Moved,
     buffer: &mut [u8],
 )
     requires room { 0 < room_of session.old side }
     requires len { length buffer.old ≡ min (room_of session.old side) most_pulled }
-    ensures pulls { EvolveTogether P.transition (Working (Pulls side)) (session.old, ports.old) (session.new, ports.new) }
+    ensures pulls { EvolveTogether P.transition (Moving moved.old moved.new (Working (Pulls side))) (session.old, ports.old)
+        (session.new, ports.new) }
     ensures asked { IsRaised turn_steps (holding session.old side).total (holding session.new side).total }
     ensures other_side { (holding session.new (other side)).total ≡ (holding session.old (other side)).total }
     ensures limits { session.new.state.limits ≡ session.old.state.limits }
 {
-    match ports.pull(side, buffer) {
+    let pull = ports.pull(side, buffer);
+    moved.add_pull(side, pull);
+    match pull {
         Pull::Got(n) => {
             session.feed(side, &buffer[..n]);
         }
@@ -89,9 +111,11 @@ fn pull<A: Allocator, P: Ports>(
     session: &mut Session<A>,
     ports: &mut P,
     side: Side,
+    moved: &mut Moved,
     buffer: &mut [u8; BUFFER],
 )
-    ensures pulls { EvolveTogether P.transition (Working (Pulls side)) (session.old, ports.old) (session.new, ports.new) }
+    ensures pulls { EvolveTogether P.transition (Moving moved.old moved.new (Working (Pulls side))) (session.old, ports.old)
+        (session.new, ports.new) }
     ensures asked { IsRaised turn_steps (holding session.old side).total (holding session.new side).total }
     ensures other_side { (holding session.new (other side)).total ≡ (holding session.old (other side)).total }
     ensures limits { session.new.state.limits ≡ session.old.state.limits }
@@ -101,7 +125,7 @@ fn pull<A: Allocator, P: Ports>(
         return;
     }
     let len = room.min(BUFFER);
-    pull_into(session, ports, side, &mut buffer[..len]);
+    pull_into(session, ports, side, moved, &mut buffer[..len]);
 }
 
 /// Makes one turn: calls the clock once, puts once to each wire for which something waits, and pulls once from each
@@ -141,32 +165,42 @@ fn pull<A: Allocator, P: Ports>(
 /// `asked`: the call makes at most 1,032 look-ups in each side's table, whatever the ports return (`turn_steps`). A turn
 /// pulls at most 512 bytes from a side, which complete at most 257 tokens.
 ///
+/// `exchange`: by the same calls, it returns what the calls moved: whether they made progress, and the bytes that they delivered and
+/// took for each side (`moved_by`).
+///
 /// Not said: which of two adjacent words `ERR` was inserted, if the body has one at that place.
-pub fn turn<A: Allocator, P: Ports>(session: &mut Session<A>, ports: &mut P)
-    ensures exchange { EvolveTogether P.transition WholeTurn (session.old, ports.old) (session.new, ports.new) }
+pub fn turn<A: Allocator, P: Ports>(session: &mut Session<A>, ports: &mut P) -> Moved
+    ensures exchange { EvolveTogether P.transition (Moving nothing_moved result WholeTurn) (session.old, ports.old)
+        (session.new, ports.new) }
     ensures asked { AsksAtMost turn_steps session.old session.new }
     ensures weight { weight_of session.new ≤ weight_bound session.new }
     ensures limits { session.new.state.limits ≡ session.old.state.limits }
 {
-    turn_through(session, ports, &mut [0; BUFFER]);
+    let mut moved = Moved::nothing();
+    turn_through(session, ports, false, &mut moved, &mut [0; BUFFER]);
+    moved
 }
 
-/// Makes one turn that reads through the given buffer, whose old contents have no effect.
+/// Makes one turn that reads through the given buffer, whose old contents have no effect, and adds what moved. If the turns
+/// of the session are spent, its clock stops it.
 #[inline(always)]
 pub(crate) fn turn_through<A: Allocator, P: Ports>(
     session: &mut Session<A>,
     ports: &mut P,
+    is_spent: bool,
+    moved: &mut Moved,
     buffer: &mut [u8; BUFFER],
 )
-    ensures exchange { EvolveTogether P.transition WholeTurn (session.old, ports.old) (session.new, ports.new) }
+    ensures exchange { EvolveTogether P.transition (Stopping is_spent (Moving moved.old moved.new WholeTurn))
+        (session.old, ports.old) (session.new, ports.new) }
     ensures asked { AsksAtMost turn_steps session.old session.new }
     ensures weight { weight_of session.new ≤ weight_bound session.new }
     ensures limits { session.new.state.limits ≡ session.old.state.limits }
 {
-    ask_clock(session, ports);
-    put_front(session, ports, Side::Bot);
-    put_front(session, ports, Side::Server);
-    pull(session, ports, Side::Bot, buffer);
-    pull(session, ports, Side::Server, buffer);
+    ask_clock(session, ports, is_spent, moved);
+    put_front(session, ports, Side::Bot, moved);
+    put_front(session, ports, Side::Server, moved);
+    pull(session, ports, Side::Bot, moved, buffer);
+    pull(session, ports, Side::Server, moved, buffer);
     session.bounds();
 }

@@ -6,19 +6,17 @@ use Rattle.std.specs.Prelude.{◌==◌, ◌&&◌, if◌then◌else◌, slice_get
 use Rattle.std.proofs.lemmas.Bool.{eqb-true}
 use Rattle.std.proofs.lemmas.List.{length-set, append_assoc}
 use Rattle.std.proofs.lemmas.Option.{slice_get_within}
-use Rattle.daide_protocol.specs.Wires.{SessionView, is_closed}
+use Rattle.daide_protocol.specs.Wires.{is_closed}
 use Rattle.daide_settings.specs.declared.settings.Settings.{Settings}
 use Rattle.daide_io.specs.Ports.{PortCall}
 use Rattle.daide_io.specs.ReadyQueue.{ReadyView, queued_places, occurrences_of, may_join, woken, woken_all, put_back, TakesNext}
 use Rattle.daide_io.specs.System.{SystemCall, Accepts}
 use Rattle.daide_io.specs.declared.system.Connect.{Connect}
 use Rattle.daide_io.specs.declared.system.Connect.TheVariants.{Ready, Failed, Pending}
-use Rattle.daide_driver.specs.Hub.{IsTurned}
 use Rattle.daide_driver.specs.declared.place.SlabPlace.{SlabPlace}
 use Rattle.daide_driver.specs.declared.place.SlabPlace.TheVariants.{Free, Kept, Held}
-use Rattle.daide_driver.specs.Slab.{SlabView, IsAt, IsNoneFree, all_free, ChangesAt}
-use Rattle.daide_event_loop.specs.QuotaPorts.{QuotaPortsView, Meters}
-use Rattle.daide_event_loop.specs.Serving.{ServiceView, fresh, OpensTurn, TurnsInRow, LeavesVisit, TurnsAndLeaves, JoinsBy, VisitsBy, Visits, queued_again}
+use Rattle.daide_driver.specs.Slab.{SlabView, IsAt, IsNoneFree, all_free, ChangesAt, SlotView, new_slot, IsSlotTurned}
+use Rattle.daide_event_loop.specs.Serving.{ServiceView, OpensTurn, TurnsInRow, LeavesVisit, TurnsAndLeaves, JoinsBy, VisitsBy, Visits, queued_again}
 use Rattle.daide_event_loop.specs.Serving.{Admits, accepted_at, opening, polled, has_room, Round, Rounds, initial_service, is_queue_empty, have_all_come}
 use Rattle.daide_event_loop.specs.Waiting.{NoBotIsLeftOut}
 use Rattle.daide_event_loop.proofs.WaitingLemmas.{woken_places, woken_there}
@@ -50,17 +48,17 @@ free_length T (suc count) = ap suc (free_length T count)
 module _ {P : Type 0} (port_transition : P → PortCall → P → Type 0) where
   -- ---- the places
 
-  changed_length : (Kind : SessionView × QuotaPortsView P → SessionView × QuotaPortsView P → Type 0)
-      (old : SlabView (QuotaPortsView P)) (place : ℕ) (new : SlabView (QuotaPortsView P)) → ChangesAt Kind old place new →
+  changed_length : (Kind : SlotView P → SlotView P → Type 0)
+      (old : SlabView P) (place : ℕ) (new : SlabView P) → ChangesAt Kind old place new →
       length new.places ≡ length old.places
   changed_length Kind old place new h =
-      ap (λ (s : SlabView (QuotaPortsView P)). length s.places) h.3 ∙ length-set old.places place (Held h.1)
+      ap (λ (s : SlabView P). length s.places) h.3 ∙ length-set old.places place (Held h.1)
 
-  turns_length : (n : ℕ) (old : SlabView (QuotaPortsView P)) (place : ℕ) (trace : List (SystemCall P))
-      (new : SlabView (QuotaPortsView P)) → TurnsInRow port_transition n old place trace new → length new.places ≡ length old.places
-  turns_length zero old place trace new h = ap (λ (s : SlabView (QuotaPortsView P)). length s.places) h.1
+  turns_length : (n : ℕ) (old : SlabView P) (place : ℕ) (trace : List (SystemCall P))
+      (new : SlabView P) → TurnsInRow port_transition n old place trace new → length new.places ≡ length old.places
+  turns_length zero old place trace new h = ap (λ (s : SlabView P). length s.places) h.1
   turns_length (suc n) old place trace new h =
-      changed_length (IsTurned (Meters port_transition)) h.6.begun place new h.6.runs
+      changed_length (IsSlotTurned port_transition) h.6.begun place new h.6.runs
       ∙ changed_length (OpensTurn port_transition place h.2) h.0 place h.6.begun h.6.begins
       ∙ turns_length n old place h.1 h.0 h.4
 
@@ -73,7 +71,7 @@ module _ {P : Type 0} (port_transition : P → PortCall → P → Type 0) where
   same_run old new e =
       (ap (λ (s : ServiceView P). s.ready.places) e, ap (λ (s : ServiceView P). length s.slab.places) e)
 
-  leave_places : (closed : Bool) (now : SessionView × QuotaPortsView P) (old : ServiceView P) (place : ℕ)
+  leave_places : (closed : Bool) (now : SlotView P) (old : ServiceView P) (place : ℕ)
       (trace : List (SystemCall P)) (new : ServiceView P) → LeavesVisit closed now old place trace new → KeepsPlaces old new
   leave_places true now old place trace new h = (
     ap (λ (s : ServiceView P). s.ready.places) h.1,
@@ -91,10 +89,10 @@ module _ {P : Type 0} (port_transition : P → PortCall → P → Type 0) where
   given_places : (old : ServiceView P) (place turns : ℕ) (trace : List (SystemCall P)) (new : ServiceView P) →
       TurnsAndLeaves port_transition old place turns trace new → KeepsPlaces old new
   given_places old place turns trace new h =
-      let left = leave_places (is_closed h.now.0) h.now (record old { slab = h.turned }) place h.leaving new h.leaves in
+      let left = leave_places (is_closed h.now.session) h.now (record old { slab = h.turned }) place h.leaving new h.leaves in
       (left.0, left.1 ∙ turns_length turns old.slab place h.turning h.turned h.takes.made)
 
-  visit_places : (at : Option (SlabPlace (SessionView × QuotaPortsView P))) (old : ServiceView P) (place turns : ℕ)
+  visit_places : (at : Option (SlabPlace (SlotView P))) (old : ServiceView P) (place turns : ℕ)
       (trace : List (SystemCall P)) (new : ServiceView P) → VisitsBy port_transition at old place turns trace new →
       KeepsPlaces old new
   visit_places None old place turns trace new h = same_run old new h.2
@@ -106,8 +104,8 @@ module _ {P : Type 0} (port_transition : P → PortCall → P → Type 0) where
       by (Ready ports) joining m =
           let given = given_places (record old { slab = m.0 }) place turns joining new m.2 in (
             given.0,
-            given.1 ∙ ap (λ (s : SlabView (QuotaPortsView P)). length s.places) m.1.2
-                ∙ length-set old.slab.places place (Held (m.1.0, fresh ports old.counters.turns)),
+            given.1 ∙ ap (λ (s : SlabView P). length s.places) m.1.2
+                ∙ length-set old.slab.places place (Held (new_slot m.1.0 ports old.counters.turns)),
           )
       by Failed joining m = (
         ap (λ (s : ServiceView P). s.ready.places) m.2,
@@ -146,7 +144,7 @@ module _ {P : Type 0} (port_transition : P → PortCall → P → Type 0) where
   pub rounds_places : (settings : Settings) (n : ℕ) (trace : List (SystemCall P)) (run : ServiceView P) →
       Rounds port_transition n (initial_service settings) trace run → HasPlaces run
   rounds_places settings zero trace run h =
-      subst HasPlaces (sym h.1) (sym (free_length (SessionView × QuotaPortsView P) settings.max_sessions))
+      subst HasPlaces (sym h.1) (sym (free_length (SlotView P) settings.max_sessions))
   rounds_places settings (suc n) trace run h =
       let mid = before_admission h.0 run h.2 h.6 (rounds_places settings n h.1 h.0 h.4) in
       let kept = admitted_places h.6.mid h.6.admission run h.6.admits in
@@ -156,7 +154,7 @@ module _ {P : Type 0} (port_transition : P → PortCall → P → Type 0) where
   pub rounds_length : (settings : Settings) (n : ℕ) (trace : List (SystemCall P)) (run : ServiceView P) →
       Rounds port_transition n (initial_service settings) trace run → length run.slab.places ≡ settings.max_sessions
   rounds_length settings zero trace run h =
-      ap (λ (s : ServiceView P). length s.slab.places) h.1 ∙ free_length (SessionView × QuotaPortsView P) settings.max_sessions
+      ap (λ (s : ServiceView P). length s.slab.places) h.1 ∙ free_length (SlotView P) settings.max_sessions
   rounds_length settings (suc n) trace run h =
       (admitted_places h.6.mid h.6.admission run h.6.admits).1
       ∙ (visits_places h.6.visits.visited h.6.visits.turns (polled h.6.woken h.6.orders h.0) h.6.visiting h.6.mid h.6.visits.takes).1

@@ -1,9 +1,9 @@
 -- The bots accepted, the connects pending, the sessions, and the fate of the others: what each step adds to them.
 use Rattle.std.proofs.Common.{◌≡◌, ℕ, zero, suc, ◌+◌, Bool, true, false, cond, List, [], ◌∷◌, ◌++◌, Option, Some, None, refl, sym, ap, ◌∙◌}
 use Rattle.std.proofs.Common.{subst, arith, inl, inr}
-use Rattle.std.specs.Prelude.{count_by, slice_get, slice_set, is_none, if◌then◌else◌}
+use Rattle.std.specs.Prelude.{count_by, slice_get, slice_set, if◌then◌else◌}
 use Rattle.std.proofs.lemmas.List.Sums.{sum_by-cons}
-use Rattle.daide_protocol.specs.Wires.{SessionView, is_closed}
+use Rattle.daide_protocol.specs.Wires.{is_closed}
 use Rattle.daide_io.specs.Ports.{PortCall}
 use Rattle.daide_io.specs.declared.system.Connect.{Connect}
 use Rattle.daide_io.specs.declared.system.Connect.TheVariants.{Ready, Failed, Pending}
@@ -13,14 +13,14 @@ use Rattle.daide_io.specs.declared.system.Orders.{Orders}
 use Rattle.daide_io.specs.declared.system.SessionEnd.{SessionEnd}
 use Rattle.daide_io.specs.declared.system.SessionStatus.{SessionStatus}
 use Rattle.daide_io.specs.System.{SystemCall, Shows, Accepts, Connects, BeginsTurn, Rests, Retires, Notifies, status_of}
-use Rattle.daide_driver.specs.Hub.{IsTurned}
 use Rattle.daide_driver.specs.declared.place.SlabPlace.{SlabPlace}
 use Rattle.daide_driver.specs.declared.place.SlabPlace.TheVariants.{Free, Kept, Held}
-use Rattle.daide_driver.specs.Slab.{SlabView, IsAt, is_held, is_kept, ChangesAt}
-use Rattle.daide_event_loop.specs.QuotaPorts.{QuotaPortsView, Meters, beginning_where, RestsBy}
+use Rattle.daide_driver.specs.Slab.{SlabView, IsAt, is_held, is_kept, ChangesAt, SlotView, new_slot, IsSlotTurned}
 use Rattle.daide_event_loop.specs.Serving.{ServiceView, sessions_in, pending_in, shows_where, opening, polled, closed}
 use Rattle.daide_event_loop.specs.Serving.{OpensTurn, TurnsInRow, LeavesVisit, TurnsAndLeaves, JoinsBy, VisitsBy, Visits}
-use Rattle.daide_event_loop.specs.Serving.{fresh, queued_again, spent_notice, retirement, end_of, Admits, accepted_at}
+use Rattle.daide_event_loop.specs.Serving.{RestsBy, queued_again, spent_notice, retirement, end_of, Admits, accepted_at}
+use Rattle.daide_driver.specs.declared.meter.Meter.{Meter}
+use Rattle.daide_driver.specs.Meter.{has_spent_turns}
 use Rattle.daide_event_loop.specs.Served.{comes, connects, retires, unreached, sum_over_calls}
 
 -- ---- counts of places
@@ -64,7 +64,7 @@ module _ {P : Type 0} where
   parts_count count all xs ys e = ap (sum_over_calls count) e ∙ counted_append count xs ys
 
   -- sessions that are shown add nothing to any count but that of shown ones
-  pub none_shown : (count : SystemCall P → ℕ) (shown : Bool) (places : List (SlabPlace (SessionView × QuotaPortsView P))) →
+  pub none_shown : (count : SystemCall P → ℕ) (shown : Bool) (places : List (SlabPlace (SlotView P))) →
       ((ports : P) (status : SessionStatus) → count (Shows ports status) ≡ 0) →
       sum_over_calls count (shows_where shown places) ≡ 0
   none_shown count false places silent = refl
@@ -72,7 +72,7 @@ module _ {P : Type 0} where
   none_shown count true (Free ∷ places) silent = none_shown count true places silent
   none_shown count true (Kept ∷ places) silent = none_shown count true places silent
   none_shown count true (Held now ∷ places) silent =
-      let one = silent now.1.ports (status_of now.0 now.1.bytes) in
+      let one = silent now.ports (status_of now.session now.meter.moved.bytes) in
       let rest = none_shown count true places silent in
       omega (arith, one, rest)
 
@@ -85,14 +85,9 @@ module _ {P : Type 0} where
     pub notifies : (notice : Notice) → count (Notifies notice) ≡ 0
 
 module _ {P : Type 0} (port_transition : P → PortCall → P → Type 0) (count : SystemCall P → ℕ) where
-  begin_none : ((place : ℕ) (before after : P) → count (BeginsTurn place before after) ≡ 0) → (left : Option ℕ) (place : ℕ)
-      (before after : P) → sum_over_calls count (beginning_where left place before after) ≡ 0
-  begin_none none None place before after = refl
-  begin_none none (Some turns) place before after = let one = none place before after in omega (arith, one)
-
   -- the calls that begin turns add nothing, if one adds nothing
   pub turns_none : ((place : ℕ) (before after : P) → count (BeginsTurn place before after) ≡ 0) → (n : ℕ)
-      (old : SlabView (QuotaPortsView P)) (place : ℕ) (trace : List (SystemCall P)) (new : SlabView (QuotaPortsView P)) →
+      (old : SlabView P) (place : ℕ) (trace : List (SystemCall P)) (new : SlabView P) →
       TurnsInRow port_transition n old place trace new → sum_over_calls count trace ≡ 0
   turns_none none zero old place trace new h = ap (sum_over_calls count) h.0
   turns_none none (suc n) old place trace new h =
@@ -100,7 +95,8 @@ module _ {P : Type 0} (port_transition : P → PortCall → P → Type 0) (count
       let before = turns_none none n old place h.1 h.0 h.4 in
       let begins = h.6.begins in
       let last : sum_over_calls count h.2 ≡ 0 =
-      ap (sum_over_calls count) begins.4.1 ∙ begin_none none begins.1.1.turns_left place begins.0.1.ports begins.1.1.ports in
+      ap (sum_over_calls count) begins.4.1
+      ∙ (let one = none place begins.0.ports begins.1.ports in omega (arith, one)) in
       omega (arith, all, before, last)
 
   pub rests_none : ((place : ℕ) (ports : P) (rests : Bool) → count (Rests place ports rests) ≡ 0) → (moved : Bool) (place : ℕ)
@@ -113,33 +109,33 @@ module _ {P : Type 0} (port_transition : P → PortCall → P → Type 0) (count
       omega (arith, all, one)
 
   -- a parting adds what its last call adds
-  pub retirement_count : ((notice : Notice) → count (Notifies notice) ≡ 0) → (place : ℕ) (ports : QuotaPortsView P) (end : SessionEnd) →
-      sum_over_calls count (retirement place ports end) ≡ count (Retires place ports.ports end)
-  retirement_count none place ports end = by (is_none ports.turns_left)
+  pub retirement_count : ((notice : Notice) → count (Notifies notice) ≡ 0) → (place : ℕ) (ports : P) (meter : Meter) (end : SessionEnd) →
+      sum_over_calls count (retirement place ports meter end) ≡ count (Retires place ports end)
+  retirement_count none place ports meter end = by (has_spent_turns meter)
     where
-      by : (spent : Bool) → sum_over_calls count (spent_notice spent ++ Retires place ports.ports end ∷ []) ≡ count (Retires place ports.ports end)
+      by : (spent : Bool) → sum_over_calls count (spent_notice spent ++ Retires place ports end ∷ []) ≡ count (Retires place ports end)
       by true = let word = none TurnsSpent in omega (arith, word)
       by false = omega arith
 
   module _ (early : IsOfOpening count) where
-    leave_none : (closed : Bool) (now : SessionView × QuotaPortsView P) (old : ServiceView P) (place : ℕ)
+    leave_none : (closed : Bool) (now : SlotView P) (old : ServiceView P) (place : ℕ)
         (trace : List (SystemCall P)) (new : ServiceView P) → LeavesVisit closed now old place trace new →
         sum_over_calls count trace ≡ 0
     leave_none true now old place trace new h =
-        ap (sum_over_calls count) h.0 ∙ retirement_count early.notifies place now.1 (end_of now)
-        ∙ early.retires place now.1.ports (end_of now)
+        ap (sum_over_calls count) h.0 ∙ retirement_count early.notifies place now.ports now.meter (end_of now)
+        ∙ early.retires place now.ports (end_of now)
     leave_none false now old place trace new h =
-        rests_none early.rests now.1.made_progress place now.1.ports trace h.0 h.1
+        rests_none early.rests now.meter.moved.made_progress place now.ports trace h.0 h.1
 
     turned_none : (old : ServiceView P) (place turns : ℕ) (trace : List (SystemCall P)) (new : ServiceView P) →
         TurnsAndLeaves port_transition old place turns trace new → sum_over_calls count trace ≡ 0
     turned_none old place turns trace new h =
         let all = parts_count count trace h.turning h.leaving h.asked in
         let begun = turns_none early.turns turns old.slab place h.turning h.turned h.takes.made in
-        let left = leave_none (is_closed h.now.0) h.now (record old { slab = h.turned }) place h.leaving new h.leaves in
+        let left = leave_none (is_closed h.now.session) h.now (record old { slab = h.turned }) place h.leaving new h.leaves in
         omega (arith, all, begun, left)
 
-    visit_none : (at : Option (SlabPlace (SessionView × QuotaPortsView P))) (old : ServiceView P) (place turns : ℕ) (trace : List (SystemCall P))
+    visit_none : (at : Option (SlabPlace (SlotView P))) (old : ServiceView P) (place turns : ℕ) (trace : List (SystemCall P))
         (new : ServiceView P) → VisitsBy port_transition at old place turns trace new → sum_over_calls count trace ≡ 0
     visit_none None old place turns trace new h = ap (sum_over_calls count) h.1
     visit_none (Some Free) old place turns trace new h = ap (sum_over_calls count) h.1
@@ -254,50 +250,50 @@ module _ {P : Type 0} where
 
 module _ {P : Type 0} (port_transition : P → PortCall → P → Type 0) where
   -- a call on a session changes no count of places
-  changed_counts : (Kind : SessionView × QuotaPortsView P → SessionView × QuotaPortsView P → Type 0)
-      (old : SlabView (QuotaPortsView P)) (place : ℕ) (new : SlabView (QuotaPortsView P)) → ChangesAt Kind old place new →
+  changed_counts : (Kind : SlotView P → SlotView P → Type 0)
+      (old : SlabView P) (place : ℕ) (new : SlabView P) → ChangesAt Kind old place new →
       (sessions_in new ≡ sessions_in old) × (pending_in new ≡ pending_in old)
   changed_counts Kind old place new h =
       let sessions = set_count is_held old.places place (Held h.0) (Held h.1) h.2 in
       let pending = set_count is_kept old.places place (Held h.0) (Held h.1) h.2 in (
-        ap (λ (s : SlabView (QuotaPortsView P)). sessions_in s) h.3 ∙ omega (arith, sessions),
-        ap (λ (s : SlabView (QuotaPortsView P)). pending_in s) h.3 ∙ omega (arith, pending),
+        ap (λ (s : SlabView P). sessions_in s) h.3 ∙ omega (arith, sessions),
+        ap (λ (s : SlabView P). pending_in s) h.3 ∙ omega (arith, pending),
       )
 
-  turns_counts : (n : ℕ) (old : SlabView (QuotaPortsView P)) (place : ℕ) (trace : List (SystemCall P))
-      (new : SlabView (QuotaPortsView P)) → TurnsInRow port_transition n old place trace new →
+  turns_counts : (n : ℕ) (old : SlabView P) (place : ℕ) (trace : List (SystemCall P))
+      (new : SlabView P) → TurnsInRow port_transition n old place trace new →
       (sessions_in new ≡ sessions_in old) × (pending_in new ≡ pending_in old)
   turns_counts zero old place trace new h =
-      (ap (λ (s : SlabView (QuotaPortsView P)). sessions_in s) h.1, ap (λ (s : SlabView (QuotaPortsView P)). pending_in s) h.1)
+      (ap (λ (s : SlabView P). sessions_in s) h.1, ap (λ (s : SlabView P). pending_in s) h.1)
   turns_counts (suc n) old place trace new h =
       let before = turns_counts n old place h.1 h.0 h.4 in
       let begun = changed_counts (OpensTurn port_transition place h.2) h.0 place h.6.begun h.6.begins in
-      let run = changed_counts (IsTurned (Meters port_transition)) h.6.begun place new h.6.runs in
+      let run = changed_counts (IsSlotTurned port_transition) h.6.begun place new h.6.runs in
       (run.0 ∙ begun.0 ∙ before.0, run.1 ∙ begun.1 ∙ before.1)
 
-  leave_counts : (closed : Bool) (now : SessionView × QuotaPortsView P) (old : ServiceView P) (place : ℕ)
+  leave_counts : (closed : Bool) (now : SlotView P) (old : ServiceView P) (place : ℕ)
       (trace : List (SystemCall P)) (new : ServiceView P) → IsAt old.slab place (Held now) →
       LeavesVisit closed now old place trace new → Counts trace old new
   leave_counts true now old place trace new at h =
       let end = end_of now in
       let sessions = set_count is_held old.slab.places place (Held now) Free at in
       let pending = set_count is_kept old.slab.places place (Held now) Free at in
-      let a = retirement_count port_transition comes (λ notice. refl) place now.1 end in
-      let b = retirement_count port_transition connects (λ notice. refl) place now.1 end in
-      let c = retirement_count port_transition retires (λ notice. refl) place now.1 end in
-      let d = retirement_count port_transition unreached (λ notice. refl) place now.1 end in
+      let a = retirement_count port_transition comes (λ notice. refl) place now.ports now.meter end in
+      let b = retirement_count port_transition connects (λ notice. refl) place now.ports now.meter end in
+      let c = retirement_count port_transition retires (λ notice. refl) place now.ports now.meter end in
+      let d = retirement_count port_transition unreached (λ notice. refl) place now.ports now.meter end in
       subst (λ (l : List (SystemCall P)). Counts l old new) (sym h.0)
-      (subst (λ (s : ServiceView P). Counts (retirement place now.1 end) old s) (sym h.1) (record {
+      (subst (λ (s : ServiceView P). Counts (retirement place now.ports now.meter end) old s) (sym h.1) (record {
         came = omega (arith, a);
         held = omega (arith, b, c, sessions);
         met = omega (arith, a, b, d, pending);
       }))
   leave_counts false now old place trace new at h =
       same_counts trace old new
-      (rests_none port_transition comes (λ place ports rests. refl) now.1.made_progress place now.1.ports trace h.0 h.1)
-      (rests_none port_transition connects (λ place ports rests. refl) now.1.made_progress place now.1.ports trace h.0 h.1)
-      (rests_none port_transition retires (λ place ports rests. refl) now.1.made_progress place now.1.ports trace h.0 h.1)
-      (rests_none port_transition unreached (λ place ports rests. refl) now.1.made_progress place now.1.ports trace h.0 h.1)
+      (rests_none port_transition comes (λ place ports rests. refl) now.meter.moved.made_progress place now.ports trace h.0 h.1)
+      (rests_none port_transition connects (λ place ports rests. refl) now.meter.moved.made_progress place now.ports trace h.0 h.1)
+      (rests_none port_transition retires (λ place ports rests. refl) now.meter.moved.made_progress place now.ports trace h.0 h.1)
+      (rests_none port_transition unreached (λ place ports rests. refl) now.meter.moved.made_progress place now.ports trace h.0 h.1)
       (ap (λ (s : ServiceView P). s.counters.accepted) h.2 ∙ (same h.0).0)
       (ap (λ (s : ServiceView P). sessions_in s.slab) h.2 ∙ (same h.0).1)
       (ap (λ (s : ServiceView P). pending_in s.slab) h.2 ∙ (same h.0).2)
@@ -321,9 +317,9 @@ module _ {P : Type 0} (port_transition : P → PortCall → P → Type 0) where
       (turns_none port_transition retires (λ place before after. refl) turns old.slab place h.turning h.turned made)
       (turns_none port_transition unreached (λ place before after. refl) turns old.slab place h.turning h.turned made)
       refl same.0 same.1)
-      (leave_counts (is_closed h.now.0) h.now mid place h.leaving new h.there h.leaves)
+      (leave_counts (is_closed h.now.session) h.now mid place h.leaving new h.there h.leaves)
 
-  pub visit_counts : (at : Option (SlabPlace (SessionView × QuotaPortsView P))) (old : ServiceView P) (place turns : ℕ)
+  pub visit_counts : (at : Option (SlabPlace (SlotView P))) (old : ServiceView P) (place turns : ℕ)
       (trace : List (SystemCall P)) (new : ServiceView P) → slice_get old.slab.places place ≡ at →
       VisitsBy port_transition at old place turns trace new → Counts trace old new
   visit_counts None old place turns trace new there h =
@@ -339,10 +335,10 @@ module _ {P : Type 0} (port_transition : P → PortCall → P → Type 0) where
       by (Ready ports) joining e m =
           let mid : ServiceView P = record old { slab = m.0 } in
           let opens = m.1 in
-          let sessions = set_count is_held old.slab.places place Kept (Held (opens.0, fresh ports old.counters.turns)) there in
-          let pending = set_count is_kept old.slab.places place Kept (Held (opens.0, fresh ports old.counters.turns)) there in
-          let now = ap (λ (s : SlabView (QuotaPortsView P)). sessions_in s) opens.2 in
-          let left = ap (λ (s : SlabView (QuotaPortsView P)). pending_in s) opens.2 in
+          let sessions = set_count is_held old.slab.places place Kept (Held (new_slot opens.0 ports old.counters.turns)) there in
+          let pending = set_count is_kept old.slab.places place Kept (Held (new_slot opens.0 ports old.counters.turns)) there in
+          let now = ap (λ (s : SlabView P). sessions_in s) opens.2 in
+          let left = ap (λ (s : SlabView P). pending_in s) opens.2 in
           counts_then trace (Connects place (Ready ports) ∷ []) joining old mid new e (record {
             came = omega arith;
             held = omega (arith, sessions, now);

@@ -4,7 +4,7 @@ use Rattle.std.proofs.Common.{Option, Some, None, refl, sym, ap, ◌∙◌, subs
 use Rattle.std.specs.Prelude.{slice_get, Contains, if◌then◌else◌}
 use Rattle.std.proofs.lemmas.Bool.Decides.{nat_tests}
 use Rattle.std.proofs.lemmas.List.Elements.{Contains-append_right}
-use Rattle.daide_protocol.specs.Wires.{SessionView, is_closed}
+use Rattle.daide_protocol.specs.Wires.{is_closed}
 use Rattle.daide_io.specs.Ports.{PortCall}
 use Rattle.daide_io.specs.ReadyQueue.{ReadyView, queued_places, may_join, put_back, TakesNext}
 use Rattle.daide_io.specs.System.{SystemCall}
@@ -12,8 +12,7 @@ use Rattle.daide_io.specs.declared.system.Connect.{Connect}
 use Rattle.daide_io.specs.declared.system.Connect.TheVariants.{Ready, Failed, Pending}
 use Rattle.daide_driver.specs.declared.place.SlabPlace.{SlabPlace}
 use Rattle.daide_driver.specs.declared.place.SlabPlace.TheVariants.{Free, Kept, Held}
-use Rattle.daide_driver.specs.Slab.{SlabView}
-use Rattle.daide_event_loop.specs.QuotaPorts.{QuotaPortsView, beginning_where}
+use Rattle.daide_driver.specs.Slab.{SlabView, SlotView}
 use Rattle.daide_event_loop.specs.Serving.{ServiceView, TurnsInRow, LeavesVisit, TurnsAndLeaves, end_of, opening, JoinsBy, VisitsBy, Visits, has_room}
 use Rattle.daide_event_loop.specs.Serving.{Admits, accepted_at, polled}
 use Rattle.daide_event_loop.specs.Served.{sum_over_calls}
@@ -58,7 +57,7 @@ module _ {P : Type 0} (port_transition : P → PortCall → P → Type 0) where
 
   turned_queue : (old : ServiceView P) (place turns : ℕ) (trace : List (SystemCall P)) (new : ServiceView P) →
       TurnsAndLeaves port_transition old place turns trace new → Rejoins place old.ready new.ready
-  turned_queue old place turns trace new h = by (is_closed h.now.0) h.leaves
+  turned_queue old place turns trace new h = by (is_closed h.now.session) h.leaves
     where
       rested : (rests : Bool) (mid : ServiceView P) → mid.ready ≡ old.ready →
           new ≡ (if rests then mid else record mid { ready = put_back mid.ready place }) → Rejoins place old.ready new.ready
@@ -72,7 +71,7 @@ module _ {P : Type 0} (port_transition : P → PortCall → P → Type 0) where
       by true l = inl (ap (λ (s : ServiceView P). s.ready) l.1)
       by false l = rested l.0 (record old { slab = h.turned }) refl l.2
 
-  pub visited_queue : (at : Option (SlabPlace (SessionView × QuotaPortsView P))) (old : ServiceView P) (place turns : ℕ) (trace : List (SystemCall P))
+  pub visited_queue : (at : Option (SlabPlace (SlotView P))) (old : ServiceView P) (place turns : ℕ) (trace : List (SystemCall P))
       (new : ServiceView P) → VisitsBy port_transition at old place turns trace new → Rejoins place old.ready new.ready
   visited_queue None old place turns trace new h = inl (ap (λ (s : ServiceView P). s.ready) h.2)
   visited_queue (Some Free) old place turns trace new h = inl (ap (λ (s : ServiceView P). s.ready) h.2)
@@ -173,38 +172,33 @@ module _ {P : Type 0} (port_transition : P → PortCall → P → Type 0) where
       omega (arith, sum, room, few)
 
   -- and the calls that begin them
-  begin_calls : (left : Option ℕ) (place : ℕ) (before after : P) → sum_over_calls turn_calls (beginning_where left place before after) ≤ 1
-  begin_calls None place before after = omega arith
-  begin_calls (Some turns) place before after = omega arith
-
-  turns_calls : (n : ℕ) (old : SlabView (QuotaPortsView P)) (place : ℕ) (trace : List (SystemCall P))
-      (new : SlabView (QuotaPortsView P)) → TurnsInRow port_transition n old place trace new → sum_over_calls turn_calls trace ≤ n
+  turns_calls : (n : ℕ) (old : SlabView P) (place : ℕ) (trace : List (SystemCall P))
+      (new : SlabView P) → TurnsInRow port_transition n old place trace new → sum_over_calls turn_calls trace ≤ n
   turns_calls zero old place trace new h = let none = ap (sum_over_calls turn_calls) h.0 in omega (arith, none)
   turns_calls (suc n) old place trace new h =
       let all = parts_count turn_calls trace h.1 h.2 h.3 in
       let before = turns_calls n old place h.1 h.0 h.4 in
       let begins = h.6.begins in
       let last = ap (sum_over_calls turn_calls) begins.4.1 in
-      let one = begin_calls begins.1.1.turns_left place begins.0.1.ports begins.1.1.ports in
-      omega (arith, all, before, last, one)
+      omega (arith, all, before, last)
 
-  leave_calls : (closed : Bool) (now : SessionView × QuotaPortsView P) (old : ServiceView P) (place : ℕ)
+  leave_calls : (closed : Bool) (now : SlotView P) (old : ServiceView P) (place : ℕ)
       (trace : List (SystemCall P)) (new : ServiceView P) → LeavesVisit closed now old place trace new →
       sum_over_calls turn_calls trace ≡ 0
   leave_calls true now old place trace new h =
-      ap (sum_over_calls turn_calls) h.0 ∙ retirement_count port_transition turn_calls (λ notice. refl) place now.1 (end_of now)
+      ap (sum_over_calls turn_calls) h.0 ∙ retirement_count port_transition turn_calls (λ notice. refl) place now.ports now.meter (end_of now)
   leave_calls false now old place trace new h =
-      rests_none port_transition turn_calls (λ place ports rests. refl) now.1.made_progress place now.1.ports trace h.0 h.1
+      rests_none port_transition turn_calls (λ place ports rests. refl) now.meter.moved.made_progress place now.ports trace h.0 h.1
 
   given_calls : (old : ServiceView P) (place turns : ℕ) (trace : List (SystemCall P)) (new : ServiceView P) →
       TurnsAndLeaves port_transition old place turns trace new → sum_over_calls turn_calls trace ≤ turns
   given_calls old place turns trace new h =
       let all = parts_count turn_calls trace h.turning h.leaving h.asked in
       let made = turns_calls turns old.slab place h.turning h.turned h.takes.made in
-      let none = leave_calls (is_closed h.now.0) h.now (record old { slab = h.turned }) place h.leaving new h.leaves in
+      let none = leave_calls (is_closed h.now.session) h.now (record old { slab = h.turned }) place h.leaving new h.leaves in
       omega (arith, all, made, none)
 
-  visit_calls : (at : Option (SlabPlace (SessionView × QuotaPortsView P))) (old : ServiceView P) (place turns : ℕ)
+  visit_calls : (at : Option (SlabPlace (SlotView P))) (old : ServiceView P) (place turns : ℕ)
       (trace : List (SystemCall P)) (new : ServiceView P) → VisitsBy port_transition at old place turns trace new →
       sum_over_calls turn_calls trace ≤ turns
   visit_calls None old place turns trace new h = let none = ap (sum_over_calls turn_calls) h.1 in omega (arith, none)

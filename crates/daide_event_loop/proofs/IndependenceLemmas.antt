@@ -20,7 +20,8 @@ use Rattle.daide_io.specs.Ports.{has_failed}
 use Rattle.daide_driver.specs.Headline.{untouched}
 use Rattle.daide_driver.specs.Record.{Moved}
 use Rattle.daide_driver.specs.Totals.{HasTotals}
-use Rattle.daide_event_loop.specs.Served.{IsEndOf, while_left, cause_of}
+use Rattle.daide_event_loop.specs.Served.{IsEndOf, while_left}
+use Rattle.daide_event_loop.specs.Serving.{cause_of}
 use Rattle.daide_event_loop.specs.Independence.{PortResult, TurnBegan, ClockRead, Received, Handed, result_of, results_of}
 use Rattle.daide_event_loop.specs.Independence.{AreAlike}
 

@@ -1,11 +1,12 @@
 -- Each law of `laws`, used once at small values. Each fact takes only the law, so that a weaker law does not check.
 use Rattle.std.proofs.Common.{◌≡◌, ℕ, ◌+◌, ◌<◌, ◌≤◌, ⊎_elim, true, false, List, [], ◌∷◌, length, refl, sym, ◌∙◌, ap, subst, arith}
-use Rattle.std.specs.Prelude.{is_none, min, Contains, All, Option, Some, None, IfSome, slice_get}
+use Rattle.std.specs.Prelude.{min, Contains, All, Option, Some, None, IfSome, slice_get}
 use Rattle.std.specs.List.{list_all}
 use Rattle.std.proofs.lemmas.List.Elements.{All-nil, All-cons, All-contains}
 use Rattle.daide_frame.specs.declared.side.Side.{Side}
 use Rattle.daide_frame.specs.declared.side.Side.TheVariants.{Bot, Server}
-use Rattle.daide_protocol.specs.Wires.{SessionView, room_of}
+use Rattle.daide_protocol.specs.Machine.{is_over}
+use Rattle.daide_protocol.specs.Wires.{room_of}
 use Rattle.daide_io.specs.declared.ports.ClockEvent.TheVariants.{NoEvent, ImTimeIsOver, StopIsRequested}
 use Rattle.daide_io.specs.declared.ports.Pull.TheVariants.{Got, Idle, Ended}
 use Rattle.daide_io.specs.declared.ports.Put.TheVariants.{Took, Failed}
@@ -17,37 +18,29 @@ use Rattle.daide_io.specs.System.{SystemCall, Polls, Shows, Accepts, Rests, last
 use Rattle.daide_io.specs.ReadyQueue.{is_queued}
 use Rattle.daide_driver.specs.declared.place.SlabPlace.{SlabPlace}
 use Rattle.daide_driver.specs.declared.place.SlabPlace.TheVariants.{Held}
-use Rattle.daide_driver.specs.Slab.{IsAt, is_free_place}
+use Rattle.daide_driver.specs.Slab.{SlotView, IsAt, is_free_place}
 use Rattle.daide_settings.specs.declared.settings.Settings.{Settings}
-use Rattle.daide_driver.specs.Hub.{IsBegun, IsTurned}
-use Rattle.daide_event_loop.specs.QuotaPorts.{QuotaPortsView, Meters, progress_by, is_gain, is_loss}
-use Rattle.daide_event_loop.specs.Served.{SessionsAreServed, OrdersAreHeeded, MovesAreAnswered, TurnsAreCounted}
+use Rattle.daide_driver.specs.Meter.{is_gain, is_loss}
+use Rattle.daide_event_loop.specs.Served.{SessionsAreServed, OrdersAreHeeded, turns_in}
 use Rattle.daide_event_loop.specs.Served.{comes, sum_over_calls, retires, unreached}
 use Rattle.daide_event_loop.specs.Served.{run_limits, IsServed, IsEndOf}
-use Rattle.daide_event_loop.specs.Serving.{ServiceView, Round, Rounds, fresh, initial_service, is_done, polled, sessions_in, pending_in}
+use Rattle.daide_event_loop.specs.Serving.{ServiceView, Round, Rounds, initial_service, is_done, polled, sessions_in, pending_in}
 use Rattle.daide_settings.specs.BotsInAll.{bots_in_all}
 use Rattle.daide_event_loop.specs.Independence.{SessionsAreIndependent, HaveSameRules, results_of, Received, Handed}
 use Rattle.daide_event_loop.specs.Waiting.{RestingSessionsAreIdle, IsAtRest, MakesNoProgress}
 use Rattle.daide_event_loop.specs.Fairness.{RoundsAreShort, ReadyPlacesAdvance, turn_calls}
 
 module _ {P : Type 0} (port_transition : P → PortCall → P → Type 0) where
-  -- with two turns the third to begin is beyond the quota, and the second is not
-  spent : TurnsAreCounted port_transition → (ports : P) (now : QuotaPortsView P) →
-      EvolvesBy (Meters port_transition) (fresh ports 2)
-      (TurnBegins ∷ Clock NoEvent ∷ TurnBegins ∷ Clock NoEvent ∷ TurnBegins ∷ []) now → is_none now.turns_left ≡ true
-  spent law ports now h =
-      law ports 2 (TurnBegins ∷ Clock NoEvent ∷ TurnBegins ∷ Clock NoEvent ∷ TurnBegins ∷ []) now h
-
-  not_spent : TurnsAreCounted port_transition → (ports : P) (now : QuotaPortsView P) →
-      EvolvesBy (Meters port_transition) (fresh ports 2) (TurnBegins ∷ Clock NoEvent ∷ TurnBegins ∷ Clock NoEvent ∷ []) now →
-      is_none now.turns_left ≡ false
-  not_spent law ports now h = law ports 2 (TurnBegins ∷ Clock NoEvent ∷ TurnBegins ∷ Clock NoEvent ∷ []) now h
-
-  -- a turn whose only call was to the clock, which had not expired, made no progress, whatever the turn before did
-  still : MovesAreAnswered port_transition → (old mid new : SessionView × QuotaPortsView P) → IsBegun (Meters port_transition) old mid →
-      (turn : IsTurned (Meters port_transition) mid new) → turn.exchange.call ≡ Clock NoEvent ∷ [] → new.1.made_progress ≡ false
-  still law old mid new begins turn is =
-      law old mid new begins turn ∙ ap (λ (trace : List PortCall). progress_by trace false) is
+  -- with two turns a session is over once a third began
+  over_after_two : SessionsAreServed port_transition → (settings : Settings) (trace : List (SystemCall P)) (run : ServiceView P)
+      (place : ℕ) (now : SlotView P) → Rounds port_transition 1 (initial_service settings) trace run →
+      (there : slice_get run.slab.places place ≡ Some (Held now)) → settings.turns ≡ 2 →
+      ((session : IsServed port_transition settings trace now) → turns_in session.history ≡ 3) →
+      is_over now.session.state.phase ≡ true
+  over_after_two law settings trace run place now rounds there two three =
+      let served = (law settings 1 trace run rounds).0 place now there in
+      let many = three served.0 in
+      served.0.metered.ends (omega (arith, two, many))
 
   -- after one round that left no session and no pending connect, each accepted bot was retired, or its server was unreachable
   one_round : SessionsAreServed port_transition → (settings : Settings) (trace : List (SystemCall P)) (run : ServiceView P) →
@@ -143,15 +136,15 @@ module _ {P : Type 0} where
 
   -- over such ports a session with room is always in the queue
   queued_with_room : RestingSessionsAreIdle AlwaysGives → (settings : Settings) (n : ℕ) (calls : List (SystemCall P))
-      (run : ServiceView P) (place : ℕ) (now : SessionView × QuotaPortsView P) →
+      (run : ServiceView P) (place : ℕ) (now : SlotView P) →
       Rounds AlwaysGives n (initial_service settings) calls run → IsAt run.slab place (Held now) →
-      (side : Side) → 0 < room_of now.0 side → is_queued run.ready place ≡ false → ⊥
+      (side : Side) → 0 < room_of now.session side → is_queued run.ready place ≡ false → ⊥
   queued_with_room law settings n calls run place now rounds there side room absent =
       let rests = law settings n calls run rounds place absent in
-      let idle = (subst (λ (o : Option (SlabPlace (SessionView × QuotaPortsView P))). IfSome o (IsAtRest AlwaysGives calls place)) there rests).0 in
+      let idle = (subst (λ (o : Option (SlabPlace (SlotView P))). IfSome o (IsAtRest AlwaysGives calls place)) there rests).0 in
       let pulled = idle.pulled side room in
-      let call = Pulled side (min (room_of now.0 side) 512) pulled.0 pulled.1 in
-      let gives = each_gives idle.turn idle.begun now.1.ports idle.evolves in
+      let call = Pulled side (min (room_of now.session side) 512) pulled.0 pulled.1 in
+      let gives = each_gives idle.turn idle.begun now.ports idle.evolves in
       let some = ap is_gain (All-contains Gives idle.turn call gives pulled.2) in
       ⊎_elim (λ (e : pulled.0 ≡ Idle). let none = ap is_gain e in absurd (cc))
       (λ (e : pulled.0 ≡ Got 0). let none = ap is_gain e in absurd (cc))
@@ -159,11 +152,11 @@ module _ {P : Type 0} where
 
   -- a session that is not in the queue was to rest with the ports that it has, and nothing came for its place since
   rests_as_it_is : (transition : P → PortCall → P → Type 0) → RestingSessionsAreIdle transition → (settings : Settings) (n : ℕ)
-      (calls : List (SystemCall P)) (run : ServiceView P) (place : ℕ) (now : SessionView × QuotaPortsView P) →
+      (calls : List (SystemCall P)) (run : ServiceView P) (place : ℕ) (now : SlotView P) →
       Rounds transition n (initial_service settings) calls run → IsAt run.slab place (Held now) →
-      is_queued run.ready place ≡ false → last_about place None calls ≡ Some (Rests place now.1.ports true)
+      is_queued run.ready place ≡ false → last_about place None calls ≡ Some (Rests place now.ports true)
   rests_as_it_is transition law settings n calls run place now rounds there absent =
-      (subst (λ (o : Option (SlabPlace (SessionView × QuotaPortsView P))). IfSome o (IsAtRest transition calls place)) there
+      (subst (λ (o : Option (SlabPlace (SlotView P))). IfSome o (IsAtRest transition calls place)) there
       (law settings n calls run rounds place absent)).1
 
 -- an expired timer, a stop, a byte, an end and a failure are progress
@@ -205,15 +198,15 @@ other_crowd settings = record { limits = refl; turns = refl }
 -- a session alone and one among 256, of which two bytes were taken: they are the same bytes, and the same ends
 alone_or_not : {P Q : Type 0} (port_transition : P → PortCall → P → Type 0) (other_transition : Q → PortCall → Q → Type 0) →
     SessionsAreIndependent port_transition other_transition → (settings : Settings) (trace : List (SystemCall P))
-    (others : List (SystemCall Q)) (now : SessionView × QuotaPortsView P) (then : SessionView × QuotaPortsView Q)
+    (others : List (SystemCall Q)) (now : SlotView P) (then : SlotView Q)
     (alone : IsServed port_transition settings trace now)
     (crowded : IsServed other_transition (crowded_by settings) others then)
     (a b c d : ℕ) →
     alone.history ≡ TurnBegins ∷ Clock NoEvent ∷ Offered Server (a ∷ b ∷ []) (Took 2) ∷ Pulled Bot 4 Idle [] ∷ [] →
     crowded.history ≡ TurnBegins ∷ Clock NoEvent ∷ Offered Server (c ∷ d ∷ []) (Took 2) ∷ Pulled Bot 512 Idle [] ∷ [] →
-    (a ∷ b ∷ [] ≡ c ∷ d ∷ []) × (now.0.state ≡ then.0.state) × (now.0.account ≡ then.0.account)
-    × ((end last : SessionEnd) → IsEndOf (run_limits settings) settings.turns alone.history now.0 end →
-    IsEndOf (run_limits settings) settings.turns crowded.history then.0 last → end ≡ last)
+    (a ∷ b ∷ [] ≡ c ∷ d ∷ []) × (now.session.state ≡ then.session.state) × (now.session.account ≡ then.session.account)
+    × ((end last : SessionEnd) → IsEndOf (run_limits settings) settings.turns alone.history now.session end →
+    IsEndOf (run_limits settings) settings.turns crowded.history then.session last → end ≡ last)
 alone_or_not port_transition other_transition law settings trace others now then alone crowded a b c d one other =
     let same = ap results_of one ∙ sym (ap results_of other) in
     let both = law settings (crowded_by settings) trace others now then alone crowded

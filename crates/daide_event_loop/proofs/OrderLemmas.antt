@@ -5,7 +5,7 @@ use Rattle.std.specs.Prelude.{◌==◌, ◌&&◌, if◌then◌else◌, slice_get
 use Rattle.std.specs.List.{list_all}
 use Rattle.std.proofs.lemmas.Bool.{eqb-false}
 use Rattle.daide_frame.proofs.ListLemmas.{eqb_same}
-use Rattle.daide_protocol.specs.Wires.{SessionView, is_closed}
+use Rattle.daide_protocol.specs.Wires.{is_closed}
 use Rattle.daide_settings.specs.declared.settings.Settings.{Settings}
 use Rattle.daide_io.specs.Ports.{PortCall}
 use Rattle.daide_io.specs.declared.system.Connect.{Connect}
@@ -14,9 +14,8 @@ use Rattle.daide_io.specs.declared.system.Orders.{Orders}
 use Rattle.daide_io.specs.System.{SystemCall, Accepts}
 use Rattle.daide_driver.specs.declared.place.SlabPlace.{SlabPlace}
 use Rattle.daide_driver.specs.declared.place.SlabPlace.TheVariants.{Free, Kept, Held}
-use Rattle.daide_driver.specs.Slab.{is_free_place}
+use Rattle.daide_driver.specs.Slab.{is_free_place, SlotView}
 use Rattle.daide_event_loop.specs.declared.admission_counters.AdmissionCounters.{AdmissionCounters}
-use Rattle.daide_event_loop.specs.QuotaPorts.{QuotaPortsView}
 use Rattle.daide_event_loop.specs.Serving.{ServiceView, initial_service, closed, heeding, opening, polled, shows_where, have_all_come}
 use Rattle.daide_settings.specs.BotsInAll.{bots_in_all}
 use Rattle.daide_event_loop.specs.Serving.{LeavesVisit, TurnsAndLeaves, JoinsBy, VisitsBy, Visits, queued_again, accepted_at, Admits, Round}
@@ -122,7 +121,7 @@ module _ {P : Type 0} where
 
 -- visits change no counter
 module _ {P : Type 0} (port_transition : P → PortCall → P → Type 0) where
-  leave_counters : (closed : Bool) (now : SessionView × QuotaPortsView P) (old : ServiceView P) (place : ℕ)
+  leave_counters : (closed : Bool) (now : SlotView P) (old : ServiceView P) (place : ℕ)
       (trace : List (SystemCall P)) (new : ServiceView P) → LeavesVisit closed now old place trace new → new.counters ≡ old.counters
   leave_counters true now old place trace new h = ap (λ (s : ServiceView P). s.counters) h.1
   leave_counters false now old place trace new h = ap (λ (s : ServiceView P). s.counters) h.2 ∙ by h.0
@@ -134,9 +133,9 @@ module _ {P : Type 0} (port_transition : P → PortCall → P → Type 0) where
   turned_counters : (old : ServiceView P) (place turns : ℕ) (trace : List (SystemCall P)) (new : ServiceView P) →
       TurnsAndLeaves port_transition old place turns trace new → new.counters ≡ old.counters
   turned_counters old place turns trace new h =
-      leave_counters (is_closed h.now.0) h.now (record old { slab = h.turned }) place h.leaving new h.leaves
+      leave_counters (is_closed h.now.session) h.now (record old { slab = h.turned }) place h.leaving new h.leaves
 
-  pub visit_counters : (at : Option (SlabPlace (SessionView × QuotaPortsView P))) (old : ServiceView P) (place turns : ℕ)
+  pub visit_counters : (at : Option (SlabPlace (SlotView P))) (old : ServiceView P) (place turns : ℕ)
       (trace : List (SystemCall P)) (new : ServiceView P) → VisitsBy port_transition at old place turns trace new →
       new.counters ≡ old.counters
   visit_counters None old place turns trace new h = ap (λ (s : ServiceView P). s.counters) h.2

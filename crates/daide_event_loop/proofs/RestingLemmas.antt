@@ -1,28 +1,27 @@
 -- Each place of a run that is used and not in its queue is at rest: it stays so in each step, or joins the queue.
-use Rattle.std.proofs.Common.{◌≡◌, ◌≢◌, ℕ, zero, suc, ◌+◌, ◌<◌, Bool, true, false, List, [], ◌∷◌, ◌++◌, Option, Some, None, length, ◌⊎◌, inl, inr, ⊎_elim}
+use Rattle.std.proofs.Common.{◌≡◌, ◌≢◌, ℕ, zero, suc, ◌+◌, ◌<◌, Bool, true, false, List, [], ◌∷◌, ◌++◌, Option, Some, None, length, inl, inr, ⊎_elim}
 use Rattle.std.proofs.Common.{refl, sym, ap, ◌∙◌, subst, arith}
-use Rattle.std.specs.Prelude.{◌==◌, All, Contains, IfSome, is_none, if◌then◌else◌, slice_get}
+use Rattle.std.specs.Prelude.{◌==◌, All, Contains, IfSome, if◌then◌else◌, slice_get}
 use Rattle.std.proofs.lemmas.Bool.{eqb-true, eqb-false}
 use Rattle.std.proofs.lemmas.List.{append_assoc}
 use Rattle.std.proofs.lemmas.List.Elements.{All-nil, All-cons, All-same, All-append, All-push, Contains-append_left, Contains-append_right}
 use Rattle.std.proofs.lemmas.Option.{slice_get_within}
 use Rattle.daide_frame.proofs.ListLemmas.{eqb_same}
-use Rattle.daide_protocol.specs.Wires.{SessionView, is_closed}
+use Rattle.daide_protocol.specs.Wires.{is_closed}
 use Rattle.daide_settings.specs.declared.settings.Settings.{Settings}
-use Rattle.daide_io.specs.Ports.{PortCall, events_of}
+use Rattle.daide_io.specs.Ports.{PortCall}
 use Rattle.daide_io.specs.ReadyQueue.{ReadyView, woken_all, put_back}
 use Rattle.daide_io.specs.System.{SystemCall, Polls, Accepts, Connects, Rests, Retires, Notifies, is_about, last_about}
 use Rattle.daide_io.specs.declared.system.Orders.{Orders}
 use Rattle.daide_io.specs.declared.system.Connect.{Connect}
 use Rattle.daide_io.specs.declared.system.Connect.TheVariants.{Ready, Failed, Pending}
 use Rattle.daide_io.specs.declared.system.Notice.TheVariants.{CannotReach, TurnsSpent}
-use Rattle.daide_driver.specs.Hub.{IsTurned}
+use Rattle.daide_driver.specs.Meter.{has_spent_turns}
 use Rattle.daide_driver.specs.declared.place.SlabPlace.{SlabPlace}
 use Rattle.daide_driver.specs.declared.place.SlabPlace.TheVariants.{Free, Kept, Held}
-use Rattle.daide_driver.specs.Slab.{SlabView, IsAt, IfHeldAt, all_free}
+use Rattle.daide_driver.specs.Slab.{SlabView, IsAt, IfHeldAt, all_free, SlotView, new_slot, IsSlotTurned}
 use Rattle.daide_event_loop.specs.declared.admission_counters.AdmissionCounters.{AdmissionCounters}
-use Rattle.daide_event_loop.specs.QuotaPorts.{QuotaPortsView, Meters, RestsBy}
-use Rattle.daide_event_loop.specs.Serving.{ServiceView, fresh, OpensTurn, TurnsInRow, LeavesVisit, TurnsAndLeaves, JoinsBy, VisitsBy, Visits, queued_again}
+use Rattle.daide_event_loop.specs.Serving.{ServiceView, OpensTurn, TurnsInRow, RestsBy, LeavesVisit, TurnsAndLeaves, JoinsBy, VisitsBy, Visits, queued_again}
 use Rattle.daide_event_loop.specs.Serving.{spent_notice, retirement, end_of, Admits, accepted_at, opening, polled, has_room, Round, Rounds, initial_service}
 use Rattle.daide_event_loop.specs.Served.{run_limits}
 use Rattle.daide_event_loop.specs.Waiting.{IsIdleSession, IsAtRest, RestingSessionsAreIdle}
@@ -30,9 +29,9 @@ use Rattle.daide_event_loop.proofs.BeginningLemmas.{get_set, changed_there}
 use Rattle.daide_event_loop.proofs.OrderLemmas.{visits_counters}
 use Rattle.daide_event_loop.proofs.FairnessLemmas.{visited_queue}
 use Rattle.daide_event_loop.proofs.ServedLemmas.{ChangesOnlyAt, same_there, one_there, there_then, held_here, turns_there_only, all_turns, all_rests, all_shown}
-use Rattle.daide_event_loop.proofs.ServedLemmas.{Reached, Served, AllServed, still, turns_serve, opened_reached, visits_serve, later, heeded_turns, rounds_serve}
+use Rattle.daide_event_loop.proofs.ServedLemmas.{Reached, AllServed, still, opened_reached, visits_serve, later, heeded_turns, rounds_serve}
 use Rattle.daide_event_loop.specs.Served.{IsServedSession}
-use Rattle.daide_event_loop.proofs.WaitingLemmas.{HasRun, idle_turn, last_then, IsElsewhere, last_elsewhere, IsAbsent, absent_is}
+use Rattle.daide_event_loop.proofs.WaitingLemmas.{idle_turn, last_then, IsElsewhere, last_elsewhere, IsAbsent, absent_is}
 use Rattle.daide_event_loop.proofs.WaitingLemmas.{woken_absent, woken_there, woken_all_absent, put_back_absent, put_back_there, taken_absent}
 use Rattle.daide_event_loop.proofs.AcceptLemmas.{HasPlaces, visits_places, taken_places, woken_all_places, before_admission, rounds_places}
 
@@ -46,19 +45,19 @@ apart_test one place apart = by (one == place) refl
     by false e = e
 
 module _ {P : Type 0} (port_transition : P → PortCall → P → Type 0) (other place : ℕ) (apart : other ≢ place) where
-  leave_elsewhere : (closed : Bool) (now : SessionView × QuotaPortsView P) (old : ServiceView P) (trace : List (SystemCall P))
+  leave_elsewhere : (closed : Bool) (now : SlotView P) (old : ServiceView P) (trace : List (SystemCall P))
       (new : ServiceView P) → LeavesVisit closed now old other trace new → All (IsElsewhere place) trace
   leave_elsewhere true now old trace new h =
-      All-same (IsElsewhere place) trace (retirement other now.1 (end_of now)) h.0
-      (All-push (IsElsewhere place) (spent_notice (is_none now.1.turns_left)) (Retires other now.1.ports (end_of now))
-      (spoken (is_none now.1.turns_left)) (apart_test other place apart))
+      All-same (IsElsewhere place) trace (retirement other now.ports now.meter (end_of now)) h.0
+      (All-push (IsElsewhere place) (spent_notice (has_spent_turns now.meter)) (Retires other now.ports (end_of now))
+      (spoken (has_spent_turns now.meter)) (apart_test other place apart))
     where
       spoken : (b : Bool) → All (IsElsewhere {P = P} place) (spent_notice b)
       spoken true = All-cons (IsElsewhere place) (Notifies TurnsSpent) [] refl (All-nil (IsElsewhere place))
       spoken false = All-nil (IsElsewhere place)
   leave_elsewhere false now old trace new h =
-      all_rests port_transition (IsElsewhere place) other (λ ports rests. apart_test other place apart) now.1.made_progress
-      now.1.ports trace h.0 h.1
+      all_rests port_transition (IsElsewhere place) other (λ ports rests. apart_test other place apart) now.meter.moved.made_progress
+      now.ports trace h.0 h.1
 
   given_elsewhere : (old : ServiceView P) (turns : ℕ) (trace : List (SystemCall P)) (new : ServiceView P) →
       TurnsAndLeaves port_transition old other turns trace new → All (IsElsewhere place) trace
@@ -67,9 +66,9 @@ module _ {P : Type 0} (port_transition : P → PortCall → P → Type 0) (other
       (All-append (IsElsewhere place) h.turning h.leaving
       (all_turns port_transition (IsElsewhere place) other (λ before after. apart_test other place apart) turns old.slab h.turning
       h.turned h.takes.made)
-      (leave_elsewhere (is_closed h.now.0) h.now (record old { slab = h.turned }) h.leaving new h.leaves))
+      (leave_elsewhere (is_closed h.now.session) h.now (record old { slab = h.turned }) h.leaving new h.leaves))
 
-  pub visit_elsewhere : (at : Option (SlabPlace (SessionView × QuotaPortsView P))) (old : ServiceView P) (turns : ℕ)
+  pub visit_elsewhere : (at : Option (SlabPlace (SlotView P))) (old : ServiceView P) (turns : ℕ)
       (trace : List (SystemCall P)) (new : ServiceView P) → VisitsBy port_transition at old other turns trace new →
       All (IsElsewhere place) trace
   visit_elsewhere None old turns trace new h = All-same (IsElsewhere place) trace [] h.1 (All-nil (IsElsewhere place))
@@ -90,7 +89,7 @@ module _ {P : Type 0} (port_transition : P → PortCall → P → Type 0) (other
 -- ---- the only place that a visit changes
 
 module _ {P : Type 0} (port_transition : P → PortCall → P → Type 0) where
-  leave_there : (closed : Bool) (now : SessionView × QuotaPortsView P) (old : ServiceView P) (place : ℕ)
+  leave_there : (closed : Bool) (now : SlotView P) (old : ServiceView P) (place : ℕ)
       (trace : List (SystemCall P)) (new : ServiceView P) → LeavesVisit closed now old place trace new →
       ChangesOnlyAt place old.slab new.slab
   leave_there true now old place trace new h = one_there place old.slab new.slab Free (ap (λ (s : ServiceView P). s.slab) h.1)
@@ -105,9 +104,9 @@ module _ {P : Type 0} (port_transition : P → PortCall → P → Type 0) where
   given_there old place turns trace new h =
       there_then place old.slab h.turned new.slab
       (turns_there_only port_transition turns old.slab place h.turning h.turned h.takes.made)
-      (leave_there (is_closed h.now.0) h.now (record old { slab = h.turned }) place h.leaving new h.leaves)
+      (leave_there (is_closed h.now.session) h.now (record old { slab = h.turned }) place h.leaving new h.leaves)
 
-  pub visit_there : (at : Option (SlabPlace (SessionView × QuotaPortsView P))) (old : ServiceView P) (place turns : ℕ)
+  pub visit_there : (at : Option (SlabPlace (SlotView P))) (old : ServiceView P) (place turns : ℕ)
       (trace : List (SystemCall P)) (new : ServiceView P) → VisitsBy port_transition at old place turns trace new →
       ChangesOnlyAt place old.slab new.slab
   visit_there None old place turns trace new h = same_there place old.slab new.slab (ap (λ (s : ServiceView P). s.slab) h.2)
@@ -118,7 +117,7 @@ module _ {P : Type 0} (port_transition : P → PortCall → P → Type 0) where
           ChangesOnlyAt place old.slab new.slab
       by (Ready ports) joining m =
           there_then place old.slab m.0 new.slab
-          (one_there place old.slab m.0 (Held (m.1.0, fresh ports old.counters.turns)) m.1.2)
+          (one_there place old.slab m.0 (Held (new_slot m.1.0 ports old.counters.turns)) m.1.2)
           (given_there (record old { slab = m.0 }) place turns joining new m.2)
       by Failed joining m = one_there place old.slab new.slab Free (ap (λ (s : ServiceView P). s.slab) m.2)
       by Pending joining m = same_there place old.slab new.slab (ap (λ (s : ServiceView P). s.slab) m.2)
@@ -136,7 +135,7 @@ module _ {P : Type 0} (port_transition : P → PortCall → P → Type 0) where
 
   -- by calls about other places
   longer : (calls ys : List (SystemCall P)) (place : ℕ) → All (IsElsewhere place) ys →
-      (at : SlabPlace (SessionView × QuotaPortsView P)) → IsAtRest port_transition calls place at →
+      (at : SlabPlace (SlotView P)) → IsAtRest port_transition calls place at →
       IsAtRest port_transition (calls ++ ys) place at
   longer calls ys place h Free r = tt
   longer calls ys place h Kept r = last_then place None calls ys ∙ last_elsewhere place (last_about place None calls) ys h ∙ r
@@ -146,19 +145,19 @@ module _ {P : Type 0} (port_transition : P → PortCall → P → Type 0) where
   still_rests : (calls ys : List (SystemCall P)) (place : ℕ) (old new : ServiceView P) → All (IsElsewhere place) ys →
       slice_get new.slab.places place ≡ slice_get old.slab.places place → RestsAt calls place old → RestsAt (calls ++ ys) place new
   still_rests calls ys place old new h same r =
-      subst (λ (o : Option (SlabPlace (SessionView × QuotaPortsView P))). IfSome o (IsAtRest port_transition (calls ++ ys) place)) (sym same)
+      subst (λ (o : Option (SlabPlace (SlotView P))). IfSome o (IsAtRest port_transition (calls ++ ys) place)) (sym same)
       (by (slice_get old.slab.places place) r)
     where
-      by : (o : Option (SlabPlace (SessionView × QuotaPortsView P))) → IfSome o (IsAtRest port_transition calls place) →
+      by : (o : Option (SlabPlace (SlotView P))) → IfSome o (IsAtRest port_transition calls place) →
           IfSome o (IsAtRest port_transition (calls ++ ys) place)
       by None r = tt
       by (Some at) r = longer calls ys place h at r
 
   -- what is at a place rests
-  rests_with : (calls : List (SystemCall P)) (place : ℕ) (run : ServiceView P) (at : SlabPlace (SessionView × QuotaPortsView P)) →
+  rests_with : (calls : List (SystemCall P)) (place : ℕ) (run : ServiceView P) (at : SlabPlace (SlotView P)) →
       IsAt run.slab place at → IsAtRest port_transition calls place at → RestsAt calls place run
   rests_with calls place run at e r =
-      subst (λ (o : Option (SlabPlace (SessionView × QuotaPortsView P))). IfSome o (IsAtRest port_transition calls place)) (sym e) r
+      subst (λ (o : Option (SlabPlace (SlotView P))). IfSome o (IsAtRest port_transition calls place)) (sym e) r
 
   last_here : (place : ℕ) (calls : List (SystemCall P)) (call : SystemCall P) → is_about place call ≡ true →
       last_about place None (calls ++ call ∷ []) ≡ Some call
@@ -168,72 +167,61 @@ module _ {P : Type 0} (port_transition : P → PortCall → P → Type 0) where
 
   module _ (settings : Settings) (all : List (SystemCall P)) where
     -- the last of some turns made no progress
-    last_idle : (n : ℕ) (old : SlabView (QuotaPortsView P)) (place : ℕ) (trace : List (SystemCall P))
-        (new : SlabView (QuotaPortsView P)) (now : SessionView × QuotaPortsView P) → 0 < n →
-        TurnsInRow port_transition n old place trace new → IsAt new place (Held now) → now.1.made_progress ≡ false →
-        HasRun port_transition (run_limits settings) now → (is_closed now.0 ≡ true) ⊎ IsIdleSession port_transition now
-    last_idle zero old place trace new now some h at unmoved run = absurd (omega (arith, some))
-    last_idle (suc n) old place trace new now some h at unmoved run =
+    last_idle : (n : ℕ) (old : SlabView P) (place : ℕ) (trace : List (SystemCall P))
+        (new : SlabView P) (now : SlotView P) → 0 < n →
+        TurnsInRow port_transition n old place trace new → IsAt new place (Held now) → now.meter.moved.made_progress ≡ false →
+        IsIdleSession port_transition now
+    last_idle zero old place trace new now some h at unmoved = absurd (omega (arith, some))
+    last_idle (suc n) old place trace new now some h at unmoved =
         let turn = h.6 in
         let opened = changed_there (OpensTurn port_transition place h.2) h.0 place turn.begun turn.begins in
         let same : turn.begins.1 ≡ turn.runs.0 = cc (sym opened ∙ turn.runs.2) in
-        let ran = changed_there (IsTurned (Meters port_transition)) turn.begun place new turn.runs in
+        let ran = changed_there (IsSlotTurned port_transition) turn.begun place new turn.runs in
         let last : turn.runs.1 ≡ now = cc (sym ran ∙ at) in
-        let made : IsTurned (Meters port_transition) turn.begins.1 now =
-        subst (λ (b : SessionView × QuotaPortsView P). IsTurned (Meters port_transition) turn.begins.1 b) last
-        (subst (λ (a : SessionView × QuotaPortsView P). IsTurned (Meters port_transition) a turn.runs.1) (sym same) turn.runs.4) in
-        idle_turn port_transition (run_limits settings) turn.begins.0 turn.begins.1 now turn.begins.4.0 made
-        turn.begins.1.1.turns_left refl unmoved run
-
-    has_run : (place : ℕ) (now : SessionView × QuotaPortsView P) → Served port_transition settings all place now →
-        HasRun port_transition (run_limits settings) now
-    has_run place now s = let sends = s.0.stands.1.whole.sends in (events_of s.0.history, sends.effects, sends.run)
+        let made : IsSlotTurned port_transition turn.begins.1 now =
+        subst (λ (b : SlotView P). IsSlotTurned port_transition turn.begins.1 b) last
+        (subst (λ (a : SlotView P). IsSlotTurned port_transition a turn.runs.1) (sym same) turn.runs.4) in
+        idle_turn port_transition turn.begins.0 turn.begins.1 now turn.begins.4.0 made unmoved
 
     -- a session that had turns rests, or its place is free or queued
     given_rests : (calls : List (SystemCall P)) (old : ServiceView P) (place turns : ℕ) (trace : List (SystemCall P))
         (new : ServiceView P) → IfHeldAt old.slab.places place (Reached port_transition settings all place) →
         place < old.ready.places → TurnsAndLeaves port_transition old place turns trace new → IsAbsent new.ready place →
         RestsAt (calls ++ trace) place new
-    given_rests calls old place turns trace new reached inside h absent = by (is_closed h.now.0) refl h.leaves
+    given_rests calls old place turns trace new reached inside h absent = by (is_closed h.now.session) refl h.leaves
       where
         mid : ServiceView P
         mid = record old { slab = h.turned }
 
-        served : Served port_transition settings all place h.now
-        served = turns_serve port_transition settings all turns old.slab place h.turning h.turned h.takes.some reached h.takes.made
-            h.now h.there
-
-        rested : (moved rests : Bool) → is_closed h.now.0 ≡ false → h.now.1.made_progress ≡ moved →
-            RestsBy moved place h.now.1.ports h.leaving rests → new ≡ (if rests then mid else queued_again mid place) →
+        rested : (moved rests : Bool) → is_closed h.now.session ≡ false → h.now.meter.moved.made_progress ≡ moved →
+            RestsBy moved place h.now.ports h.leaving rests → new ≡ (if rests then mid else queued_again mid place) →
             RestsAt (calls ++ trace) place new
         rested true true lives is r e = let none = r.1 in absurd (cc)
         rested false true lives is r e =
             let idle : IsIdleSession port_transition h.now =
-            ⊎_elim (λ (closed : is_closed h.now.0 ≡ true). absurd (cc)) (λ (i : IsIdleSession port_transition h.now). i)
-            (last_idle turns old.slab place h.turning h.turned h.now h.takes.some h.takes.made h.there is
-            (has_run place h.now served)) in
-            let extended : calls ++ trace ≡ (calls ++ h.turning) ++ Rests place h.now.1.ports true ∷ [] =
+            last_idle turns old.slab place h.turning h.turned h.now h.takes.some h.takes.made h.there is in
+            let extended : calls ++ trace ≡ (calls ++ h.turning) ++ Rests place h.now.ports true ∷ [] =
             ap (λ (l : List (SystemCall P)). calls ++ l) (h.asked ∙ ap (λ (l : List (SystemCall P)). h.turning ++ l) r)
-            ∙ sym (append_assoc calls h.turning (Rests place h.now.1.ports true ∷ [])) in
+            ∙ sym (append_assoc calls h.turning (Rests place h.now.ports true ∷ [])) in
             rests_with (calls ++ trace) place new (Held h.now)
             (ap (λ (s : ServiceView P). slice_get s.slab.places place) e ∙ h.there) (
               idle,
               ap (last_about place None) extended
-                  ∙ last_here place (calls ++ h.turning) (Rests place h.now.1.ports true) (eqb_same place),
+                  ∙ last_here place (calls ++ h.turning) (Rests place h.now.ports true) (eqb_same place),
             )
         rested moved false lives is r e =
             absurd (put_back_there old.ready place inside
             (subst (λ (s : ServiceView P). IsAbsent s.ready place) e absent))
 
-        by : (closed : Bool) → is_closed h.now.0 ≡ closed → LeavesVisit closed h.now mid place h.leaving new →
+        by : (closed : Bool) → is_closed h.now.session ≡ closed → LeavesVisit closed h.now mid place h.leaving new →
             RestsAt (calls ++ trace) place new
         by true e l =
             rests_with (calls ++ trace) place new Free
             (ap (λ (s : ServiceView P). slice_get s.slab.places place) l.1 ∙ get_set h.turned.places place Free (Held h.now) h.there) tt
-        by false e l = rested h.now.1.made_progress l.0 e refl l.1 l.2
+        by false e l = rested h.now.meter.moved.made_progress l.0 e refl l.1 l.2
 
     -- so it is with a visit of any place
-    visit_rests : (at : Option (SlabPlace (SessionView × QuotaPortsView P))) (calls : List (SystemCall P)) (old : ServiceView P)
+    visit_rests : (at : Option (SlabPlace (SlotView P))) (calls : List (SystemCall P)) (old : ServiceView P)
         (place turns : ℕ) (trace : List (SystemCall P)) (new : ServiceView P) → slice_get old.slab.places place ≡ at →
         ((n : ℕ) (ports : P) → Contains trace (Connects n (Ready ports)) → Contains all (Connects n (Ready ports))) →
         old.slab.limits ≡ run_limits settings → old.counters.turns ≡ settings.turns →
@@ -241,7 +229,7 @@ module _ {P : Type 0} (port_transition : P → PortCall → P → Type 0) where
         VisitsBy port_transition at old place turns trace new → IsAbsent new.ready place → RestsAt (calls ++ trace) place new
     visit_rests None calls old place turns trace new there within limits quota held places h absent =
         let none : slice_get new.slab.places place ≡ None = ap (λ (s : ServiceView P). slice_get s.slab.places place) h.2 ∙ there in
-        subst (λ (o : Option (SlabPlace (SessionView × QuotaPortsView P))). IfSome o (IsAtRest port_transition (calls ++ trace) place)) (sym none) tt
+        subst (λ (o : Option (SlabPlace (SlotView P))). IfSome o (IsAtRest port_transition (calls ++ trace) place)) (sym none) tt
     visit_rests (Some Free) calls old place turns trace new there within limits quota held places h absent =
         rests_with (calls ++ trace) place new Free (ap (λ (s : ServiceView P). slice_get s.slab.places place) h.2 ∙ there) tt
     visit_rests (Some Kept) calls old place turns trace new there within limits quota held places h absent = by h.0 h.1 h.2 h.3
@@ -254,9 +242,9 @@ module _ {P : Type 0} (port_transition : P → PortCall → P → Type 0) where
         by : (connect : Connect P) (joining : List (SystemCall P)) → trace ≡ Connects place connect ∷ joining →
             JoinsBy port_transition connect old place turns joining new → RestsAt (calls ++ trace) place new
         by (Ready ports) joining e m =
-            let now : SessionView × QuotaPortsView P = (m.1.0, fresh ports old.counters.turns) in
+            let now : SlotView P = new_slot m.1.0 ports old.counters.turns in
             let at : IsAt m.0 place (Held now) =
-            ap (λ (s : SlabView (QuotaPortsView P)). slice_get s.places place) m.1.2 ∙ get_set old.slab.places place (Held now) Kept there in
+            ap (λ (s : SlabView P). slice_get s.places place) m.1.2 ∙ get_set old.slab.places place (Held now) Kept there in
             let came = within place ports (subst (λ (l : List (SystemCall P)). Contains l (Connects place (Ready ports))) (sym e)
             (0, omega arith, refl)) in
             let reached = opened_reached port_transition settings all old place ports m.1.0 limits quota m.1.1 came in
@@ -340,10 +328,10 @@ module _ {P : Type 0} (port_transition : P → PortCall → P → Type 0) where
   poll_rests calls woken orders old places rest = λ place absent.
       by place absent (slice_get old.slab.places place) refl
     where
-      by : (place : ℕ) → IsAbsent (woken_all woken old.ready) place → (at : Option (SlabPlace (SessionView × QuotaPortsView P))) →
+      by : (place : ℕ) → IsAbsent (woken_all woken old.ready) place → (at : Option (SlabPlace (SlotView P))) →
           slice_get old.slab.places place ≡ at → RestsAt (calls ++ opening woken orders old) place (polled woken orders old)
       by place absent None e =
-          subst (λ (o : Option (SlabPlace (SessionView × QuotaPortsView P))).
+          subst (λ (o : Option (SlabPlace (SlotView P))).
           IfSome o (IsAtRest port_transition (calls ++ opening woken orders old) place)) (sym e) tt
       by place absent (Some at) e =
           let was = woken_all_absent woken old.ready place absent in
@@ -419,13 +407,13 @@ module _ {P : Type 0} (port_transition : P → PortCall → P → Type 0) where
         ∙ append_assoc xs (opens ++ r.visiting) r.admission ∙ ap (λ (l : List (SystemCall P)). xs ++ l) (sym r.asked)) accepted
 
     -- no place is used at the opening
-    free_at : (count place : ℕ) → IfSome (slice_get (all_free {T = SessionView × QuotaPortsView P} count) place) (λ at. at ≡ Free)
+    free_at : (count place : ℕ) → IfSome (slice_get (all_free {T = SlotView P} count) place) (λ at. at ≡ Free)
     free_at zero zero = tt
     free_at zero (suc place) = tt
     free_at (suc count) zero = refl
     free_at (suc count) (suc place) = free_at count place
 
-    free_rests : (calls : List (SystemCall P)) (place : ℕ) (at : Option (SlabPlace (SessionView × QuotaPortsView P))) →
+    free_rests : (calls : List (SystemCall P)) (place : ℕ) (at : Option (SlabPlace (SlotView P))) →
         IfSome at (λ found. found ≡ Free) → IfSome at (IsAtRest port_transition calls place)
     free_rests calls place None e = tt
     free_rests calls place (Some at) e = subst (IsAtRest port_transition calls place) (sym e) tt

@@ -1,12 +1,11 @@
 -- The progress of a turn, the cause and the report of an ending, the counters, and how a round begins. The expected values are
 -- independent of the definitions, so a result in place of its neighbour does not check.
-use Rattle.std.proofs.Common.{◌≡◌, ℕ, ◌+◌, true, false, List, [], ◌∷◌, map, replicate, Some, None, Option, refl}
+use Rattle.std.proofs.Common.{◌≡◌, ℕ, ◌+◌, true, false, List, [], Bool, ◌∷◌, map, replicate, Some, None, Option, refl}
 use Rattle.std.specs.List.{range_with_len}
 use Rattle.daide_frame.specs.declared.side.Side.{Side}
 use Rattle.daide_frame.specs.declared.side.Side.TheVariants.{Bot, Server}
 use Rattle.daide_frame.specs.declared.code.Code.TheVariants.{SecondRm}
 use Rattle.daide_frame.specs.PerSide.{both}
-use Rattle.daide_protocol.specs.declared.ending.Ending.{Ending}
 use Rattle.daide_protocol.specs.declared.ending.Ending.TheVariants.{Ended, Lost, Final, Error, Fault, Stopped}
 use Rattle.daide_protocol.specs.declared.account.Account.{Account}
 use Rattle.daide_protocol.specs.declared.account.SideCounts.{SideCounts}
@@ -20,14 +19,16 @@ use Rattle.daide_io.specs.declared.ports.ClockEvent.TheVariants.{NoEvent, ImTime
 use Rattle.daide_io.specs.declared.ports.Pull.TheVariants.{Got, Idle, Ended}
 use Rattle.daide_io.specs.declared.ports.Put.TheVariants.{Took, Failed}
 use Rattle.daide_driver.specs.Headline.{nothing_held}
-use Rattle.daide_io.specs.Ports.{TurnBegins, Clock, Pulled, Offered}
+use Rattle.daide_io.specs.Ports.{PortCall, TurnBegins, Clock, Pulled, Offered}
 use Rattle.daide_io.specs.declared.system.Notice.TheVariants.{TurnsSpent}
 use Rattle.daide_io.specs.declared.system.Cause.TheVariants as Causes
 use Rattle.daide_io.specs.declared.fault_field.FaultField.TheVariants as Fields
 use Rattle.daide_io.specs.declared.byte_counts.ByteCounts.{ByteCounts}
 use Rattle.daide_io.specs.ByteCounts.{no_bytes, counted_after}
 use Rattle.daide_io.specs.FaultField.{fault_field_of}
-use Rattle.daide_event_loop.specs.QuotaPorts.{QuotaPortsView, left_after, progress_after, progress_by, reported_after, beginning}
+use Rattle.daide_driver.specs.declared.meter.Meter.{Meter}
+use Rattle.daide_driver.specs.Slab.{SlotView}
+use Rattle.daide_driver.specs.Meter.{moved_after, left_after, is_stopped_by, with_turn_begun, metered}
 use Rattle.daide_event_loop.specs.Served.{turns_in, while_left}
 use Rattle.daide_settings.specs.declared.settings.Settings.{Settings}
 use Rattle.daide_event_loop.specs.declared.admission_counters.AdmissionCounters.{AdmissionCounters}
@@ -35,10 +36,14 @@ use Rattle.daide_driver.specs.declared.place.SlabPlace.{SlabPlace}
 use Rattle.daide_driver.specs.declared.place.SlabPlace.TheVariants as Places
 use Rattle.daide_event_loop.specs.Serving.{ServiceView, is_done, is_queue_empty, have_all_come, has_room, sessions_in, pending_in}
 use Rattle.daide_settings.specs.BotsInAll.{bots_in_all}
-use Rattle.daide_event_loop.specs.Serving.{cause_by, retirement, end_of, heeding, opening}
-use Rattle.daide_io.specs.System.{Polls, Shows, BeginsTurn, Retires, Notifies, no_orders}
+use Rattle.daide_event_loop.specs.Serving.{cause_of, ending_within, retirement, end_of, heeding, opening}
+use Rattle.daide_io.specs.System.{Polls, Shows, Retires, Notifies, no_orders}
 
 -- ---- progress
+
+-- whether there was progress after a call, if there was some before it or not
+abbrev progress_after : PortCall → Bool → Bool
+progress_after call before = (moved_after call (record { made_progress = before; bytes = no_bytes })).made_progress
 
 -- zero bytes received or sent are no progress; a byte is, and so are an end, a failure, an expired IM timer and a stop
 no_bytes_are_no_move : (side : Side) → (progress_after (Pulled side 512 (Got 0) []) false ≡ false)
@@ -53,24 +58,34 @@ moves : (side : Side) → (progress_after (Pulled side 512 Ended []) false ≡ t
     × (map (λ n. progress_after (Offered side [] (Took n)) false) (range_with_len 0 513) ≡ false ∷ replicate 512 true)
 moves side = (refl, refl, refl, refl, refl, refl)
 
+-- a meter with this many turns left, and these bytes, after a turn with progress
+abbrev moving : Option ℕ → ByteCounts → Meter
+moving left counts = record { turns_left = left; moved = record { made_progress = true; bytes = counts } }
+
+-- whether a turn of these calls made progress, after one that did
+abbrev progress_of : List PortCall → Bool
+progress_of calls = (metered false calls (moving (Some 2) no_bytes)).moved.made_progress
+
 -- progress stays until the next turn begins
 moves_stay : (side : Side) → (progress_after (Pulled side 512 Idle []) true ≡ true)
     × (progress_after (Pulled side 512 (Got 0) []) true ≡ true)
     × (progress_after (Offered side (0x02 ∷ []) (Took 0)) true ≡ true) × (progress_after (Clock NoEvent) true ≡ true)
-    × (progress_after TurnBegins true ≡ false)
-    × (progress_by (TurnBegins ∷ Clock NoEvent ∷ Offered side (0x02 ∷ []) (Took 0) ∷ Pulled side 4 Idle [] ∷ []) true ≡ false)
-    × (progress_by (TurnBegins ∷ Clock NoEvent ∷ Offered side (0x02 ∷ []) (Took 1) ∷ Pulled side 4 Idle [] ∷ []) false ≡ true)
-    × (progress_by (TurnBegins ∷ Clock ImTimeIsOver ∷ Offered side (0x02 ∷ []) (Took 0) ∷ Pulled side 4 Idle [] ∷ []) false ≡ true)
-moves_stay side = (refl, refl, refl, refl, refl, refl, refl, refl)
+    × ((with_turn_begun false (moving (Some 2) no_bytes)).moved.made_progress ≡ false)
+    × (progress_of (Clock NoEvent ∷ Offered side (0x02 ∷ []) (Took 0) ∷ Pulled side 4 Idle [] ∷ []) ≡ false)
+    × (progress_of (Clock NoEvent ∷ Offered side (0x02 ∷ []) (Took 1) ∷ Pulled side 4 Idle [] ∷ []) ≡ true)
+moves_stay side = (refl, refl, refl, refl, refl, refl, refl)
 
 -- ---- turns
 
--- only the beginning of a turn takes one from the quota; no other call does
-turns_taken : (side : Side) → (left_after TurnBegins (Some 2) ≡ Some 1) × (left_after TurnBegins (Some 1) ≡ Some 0)
-    × (left_after TurnBegins (Some 0) ≡ None) × (left_after TurnBegins None ≡ None)
-    × (left_after (Clock NoEvent) (Some 0) ≡ Some 0) × (left_after (Clock ImTimeIsOver) (Some 1) ≡ Some 1)
-    × (left_after (Pulled side 4 (Got 4) []) (Some 1) ≡ Some 1) × (left_after (Offered side [] Failed) (Some 1) ≡ Some 1)
-turns_taken side = (refl, refl, refl, refl, refl, refl, refl, refl)
+-- a turn takes one from the quota of an open session, and none from that of a session that is over
+turns_taken : (left_after false (Some 2) ≡ Some 1) × (left_after false (Some 1) ≡ Some 0) × (left_after false (Some 0) ≡ None)
+    × (left_after false None ≡ None) × (left_after true (Some 1) ≡ Some 1) × (left_after true (Some 0) ≡ Some 0)
+turns_taken = (refl, refl, refl, refl, refl, refl)
+
+-- only an open session without a turn left is stopped
+turns_stop : (is_stopped_by false (moving (Some 0) no_bytes) ≡ true) × (is_stopped_by false (moving (Some 1) no_bytes) ≡ false)
+    × (is_stopped_by true (moving (Some 0) no_bytes) ≡ false) × (is_stopped_by true (moving None no_bytes) ≡ false)
+turns_stop = (refl, refl, refl, refl)
 
 -- ---- the turns of a round
 
@@ -81,26 +96,11 @@ room_for_a_visit = (refl, refl)
 
 -- ---- the cause of an ending
 
--- beyond the quota an end or a failure is recorded; later ones do not replace the first
-first_reported : (one other : Side) → (reported_after (Pulled one 4 Ended []) None None ≡ Some (Ended one))
-    × (reported_after (Offered one [] Failed) None None ≡ Some (Lost one))
-    × (reported_after (Pulled one 4 Ended []) None (Some (Lost other)) ≡ Some (Lost other))
-    × (reported_after (Offered one [] Failed) None (Some (Ended other)) ≡ Some (Ended other))
-first_reported one other = (refl, refl, refl, refl)
-
--- within the quota the ports' own ends and failures are not recorded
-nothing_reported : (side : Side) → (reported_after (Pulled side 4 Ended []) (Some 0) None ≡ None)
-    × (reported_after (Offered side [] Failed) (Some 0) None ≡ None) × (reported_after (Clock NoEvent) None None ≡ None)
-nothing_reported side = (refl, refl, refl)
-
--- an ending recorded first beyond the quota has spent turns as its cause; any other is the cause itself
-causes : (cause_by None (Some (Ended Bot)) ≡ Causes.Session (Ended Bot))
-    × (cause_by (Some (Ended Bot)) (Some (Ended Bot)) ≡ Causes.TurnsSpent)
-    × (cause_by (Some (Lost Server)) (Some (Lost Server)) ≡ Causes.TurnsSpent)
-    × (cause_by (Some (Lost Server)) (Some (Lost Bot)) ≡ Causes.Session (Lost Bot))
-    × (cause_by (Some (Lost Bot)) (Some (Ended Bot)) ≡ Causes.Session (Ended Bot))
-    × (cause_by (Some (Lost Server)) (Some (Final Server)) ≡ Causes.Session (Final Server))
-causes = (refl, refl, refl, refl, refl, refl)
+-- the stop of a session whose turns were spent has these as its cause; any other ending is the cause itself
+causes : (cause_of (ending_within (moving None no_bytes) (Some Stopped)) ≡ Causes.TurnsSpent)
+    × (cause_of (ending_within (moving (Some 0) no_bytes) (Some Stopped)) ≡ Causes.Session Stopped)
+    × (cause_of (ending_within (moving (Some 0) no_bytes) (Some (Final Server))) ≡ Causes.Session (Final Server))
+causes = (refl, refl, refl)
 
 -- ---- retirements
 
@@ -135,35 +135,23 @@ queued limits = session limits (Over (Final Bot)) 20 (record { to = Bot; answers
 abbrev bytes : ℕ → ByteCounts
 bytes n = record { from_bot = n; from_server = n + 10; to_bot = n + 20; to_server = n + 30 }
 
--- ports identified by a number, with this many turns left
-abbrev ports : ℕ → Option ℕ → QuotaPortsView ℕ
-ports number left = record {
+-- a session with ports identified by a number, with this many turns left
+abbrev slot : SessionView → ℕ → Option ℕ → SlotView ℕ
+slot session number left = record {
+  session = session;
   ports = number;
-  turns_left = left;
-  made_progress = false;
-  first_synthetic_end = None;
-  bytes = bytes number;
-}
-
--- ports beyond their quota, and their first synthetic end
-abbrev spent : ℕ → Ending → QuotaPortsView ℕ
-spent number synthetic = record {
-  ports = number;
-  turns_left = None;
-  made_progress = false;
-  first_synthetic_end = Some synthetic;
-  bytes = no_bytes;
+  meter = record { turns_left = left; moved = record { made_progress = false; bytes = bytes number } };
 }
 
 -- the first ended by a fault, the second by a final message, and the third was open until its turns were spent
-abbrev three : Limits → List (SessionView × QuotaPortsView ℕ)
+abbrev three : Limits → List (SlotView ℕ)
 three limits =
-    (session limits (Over (Fault Server SecondRm)) 10 [], ports 1 (Some 9)) ∷ (queued limits, ports 2 (Some 9))
-    ∷ (session limits (Over (Lost Bot)) 40 [], spent 4 (Lost Bot)) ∷ []
+    slot (session limits (Over (Fault Server SecondRm)) 10 []) 1 (Some 9) ∷ slot (queued limits) 2 (Some 9)
+    ∷ slot (session limits (Over Stopped) 40 []) 4 None ∷ []
 
 -- each with its own end, its own counts and its place
 parted_from_their_places : (limits : Limits) →
-    map (λ now. retirement 7 now.1 (end_of now)) (three limits)
+    map (λ now. retirement 7 now.ports now.meter (end_of now)) (three limits)
     ≡ (Retires 7 1 (record {
       cause = Causes.Session (Fault Server SecondRm);
       account = counts limits 10;
@@ -193,14 +181,11 @@ bytes_wrap = (refl, refl, refl, refl)
 
 -- ---- turns that begin
 
--- of three turns the third is beyond a quota of two; the system begins a turn with ports within their quota, and with
--- no others
+-- of three turns the third is beyond a quota of two
 turns_counted : (turns_in (TurnBegins ∷ Clock NoEvent ∷ TurnBegins ∷ Clock NoEvent ∷ TurnBegins ∷ Clock NoEvent ∷ []) ≡ 3)
     × (while_left 2 (TurnBegins ∷ Clock ImTimeIsOver ∷ TurnBegins ∷ Clock NoEvent ∷ TurnBegins ∷ Clock NoEvent ∷ [])
     ≡ TurnBegins ∷ Clock ImTimeIsOver ∷ TurnBegins ∷ Clock NoEvent ∷ [])
-    × (beginning 3 (ports 4 (Some 1)) (ports 5 (Some 0)) ≡ BeginsTurn 3 4 5 ∷ [])
-    × (beginning 3 (ports 4 (Some 0)) (spent 4 (Lost Bot)) ≡ [])
-turns_counted = (refl, refl, refl, refl)
+turns_counted = (refl, refl)
 
 -- ---- the number of bots
 
@@ -226,15 +211,15 @@ came_or_not settings = (refl, refl, refl, refl, refl)
 -- ---- a run
 
 -- a run of seven bots with these places and this queue, after this many bots were accepted
-abbrev run : Limits → Settings → ℕ → List (SlabPlace (SessionView × QuotaPortsView ℕ)) → List ℕ → List ℕ → ServiceView ℕ
+abbrev run : Limits → Settings → ℕ → List (SlabPlace (SlotView ℕ)) → List ℕ → List ℕ → ServiceView ℕ
 run limits settings accepted places fresh moving = record {
   slab = record { limits = limits; places = places };
   counters = counted (record settings { endless = false; sessions = 7 }) accepted;
   ready = record { fresh = fresh; moving = moving; places = 3 };
 }
 
-abbrev open_at_a_place : Limits → SlabPlace (SessionView × QuotaPortsView ℕ)
-open_at_a_place limits = Places.Held (session limits (Open limits.top_level) 30 [], ports 3 (Some 9))
+abbrev open_at_a_place : Limits → SlabPlace (SlotView ℕ)
+open_at_a_place limits = Places.Held (slot (session limits (Open limits.top_level) 30 []) 3 (Some 9))
 
 -- a run with a session, or with a connect that is pending, is not done, and neither is one that may accept a bot
 done_or_not : (limits : Limits) (settings : Settings) →
@@ -261,7 +246,7 @@ idle_or_not limits settings = (refl, refl, refl)
 -- lowest, and an FM of four bytes is queued for the second bot
 shown_in_order : (limits : Limits) (settings : Settings) →
     opening (2 ∷ []) (record { stops_accepting = false; shows_sessions = true })
-    (run limits settings 7 (Places.Kept ∷ Places.Held (queued limits, ports 2 (Some 9)) ∷ Places.Free ∷ open_at_a_place limits ∷ []) [] (1 ∷ []))
+    (run limits settings 7 (Places.Kept ∷ Places.Held (slot (queued limits) 2 (Some 9)) ∷ Places.Free ∷ open_at_a_place limits ∷ []) [] (1 ∷ []))
     ≡ Polls false (2 ∷ []) (record { stops_accepting = false; shows_sessions = true })
     ∷ Shows 2 (record { phase = Phases.Over; level = level_in WaitIm; account = counts limits 20; queued_to_bot = 4; queued_to_server = 0; bytes = bytes 2 })
     ∷ Shows 3 (record {

@@ -1,21 +1,19 @@
 -- The sessions of a run, step by step.
-use Rattle.std.proofs.Common.{◌≡◌, ◌≢◌, ℕ, zero, suc, ◌+◌, ◌<◌, Bool, true, false, List, [], ◌∷◌, ◌++◌, refl, sym, ap, ◌∙◌, subst, arith, inl, inr}
-use Rattle.std.specs.Prelude.{◌==◌, ◌&&◌, count_by, Option, Some, None, Contains, All, is_none, is_some, slice_get, slice_set, if◌then◌else◌}
+use Rattle.std.proofs.Common.{◌≡◌, ◌≢◌, ℕ, zero, suc, ◌+◌, ◌<◌, Bool, true, false, List, [], ◌∷◌, ◌++◌, refl, sym, ap, ◌∙◌, subst, arith, append_assoc, inl, inr}
+use Rattle.std.specs.Prelude.{◌==◌, ◌&&◌, count_by, Option, Some, None, Contains, All, slice_get, slice_set, if◌then◌else◌}
 use Rattle.std.specs.List.{list_all}
 use Rattle.std.proofs.lemmas.Bool.{eqb-true, eqb-false}
 use Rattle.std.proofs.lemmas.List.Elements.{All-nil, All-cons, All-same, All-append, All-push, All-weaker}
 use Rattle.std.proofs.lemmas.List.Elements.{Contains-append_left, Contains-append_right}
-use Rattle.daide_protocol.specs.declared.ending.Ending.{Ending}
-use Rattle.daide_protocol.proofs.EndingLemmas.{ending_known}
-use Rattle.daide_protocol.specs.Machine.{Limits, is_over, ending_in}
+use Rattle.daide_protocol.specs.Machine.{Limits, SessionState, is_over}
 use Rattle.daide_protocol.specs.Wires.{SessionView, IsNew, is_closed}
-use Rattle.daide_io.specs.Ports.{PortCall, TurnBegins, EvolvesBy}
+use Rattle.daide_io.specs.Ports.{PortCall, TurnBegins}
 use Rattle.daide_driver.specs.Headline.{untouched}
 use Rattle.daide_driver.specs.Totals.{RefinesRun}
-use Rattle.daide_driver.specs.Hub.{IsBegun, IsTurned}
+use Rattle.daide_driver.specs.Meter.{has_spent_turns}
 use Rattle.daide_driver.specs.declared.place.SlabPlace.{SlabPlace}
 use Rattle.daide_driver.specs.declared.place.SlabPlace.TheVariants.{Free, Kept, Held}
-use Rattle.daide_driver.specs.Slab.{SlabView, IsAt, IfHeldAt, with_place, all_free, is_free_place, is_held, is_kept}
+use Rattle.daide_driver.specs.Slab.{SlabView, SlotView, IsSlotBegun, IsSlotTurned, IsAt, IfHeldAt, with_place, all_free, is_free_place, is_held, is_kept, new_slot}
 use Rattle.daide_driver.proofs.PortCalls.{turn_begins}
 use Rattle.daide_io.proofs.TraceLemmas.{transition_then}
 use Rattle.daide_driver.proofs.Stretches.{relays_append}
@@ -27,30 +25,16 @@ use Rattle.daide_io.specs.declared.system.Connect.TheVariants.{Ready, Failed, Pe
 use Rattle.daide_io.specs.declared.system.Notice.TheVariants.{CannotReach, TurnsSpent}
 use Rattle.daide_io.specs.declared.system.SessionStatus.{SessionStatus}
 use Rattle.daide_event_loop.specs.declared.admission_counters.AdmissionCounters.{AdmissionCounters}
-use Rattle.daide_event_loop.specs.QuotaPorts.{QuotaPortsView, Meters, progress_by, beginning_where, RestsBy}
 use Rattle.daide_io.specs.System.{SystemCall, Polls, Shows, Accepts, Connects, BeginsTurn, Rests, Retires, Notifies, status_of}
-use Rattle.daide_event_loop.specs.Serving.{ServiceView, fresh, initial_service, is_done, have_all_come, closed, shows_where, opening, polled}
-use Rattle.daide_event_loop.specs.Serving.{OpensTurn, TakesTurn, TurnsInRow, LeavesVisit, TurnsAndLeaves, JoinsBy, VisitsBy, Visits, queued_again}
-use Rattle.daide_event_loop.specs.Serving.{spent_notice, retirement, cause_by, end_of, Admits, accepted_at, Round, Rounds, BreaksOff, sessions_in, pending_in}
+use Rattle.daide_event_loop.specs.Serving.{ServiceView, initial_service, is_done, have_all_come, closed, shows_where, opening, polled}
+use Rattle.daide_event_loop.specs.Serving.{OpensTurn, TakesTurn, TurnsInRow, RestsBy, LeavesVisit, TurnsAndLeaves, JoinsBy, VisitsBy, Visits, queued_again}
+use Rattle.daide_event_loop.specs.Serving.{spent_notice, retirement, end_of, Admits, accepted_at, Round, Rounds, BreaksOff, sessions_in, pending_in}
 use Rattle.daide_event_loop.specs.Served.{IsServedSession, run_limits, IsSessionOfRun, IsServed, IsEndOf, RetiresClosed, AreServed}
 use Rattle.daide_event_loop.specs.Served.{IsWholeRun, comes, connects, retires, unreached, sum_over_calls}
 use Rattle.daide_event_loop.proofs.BeginningLemmas.{get_set, changed_there}
-use Rattle.daide_event_loop.proofs.CauseLemmas.{IsCut, cut_begins, cut_begun, cut_turn, cut_cause, cut_field}
+use Rattle.daide_event_loop.proofs.MeterRuns.{Metering, metering_begins, metering_turn, is_metered, end_metered}
 use Rattle.daide_event_loop.proofs.CountLemmas.{count_first, Counts, counts_then, opening_counts, visits_counts, admission_counts}
 use Rattle.daide_event_loop.proofs.OrderLemmas.{Limited, first_limit, limit_then, visits_counters}
-
--- ---- progress
-
-module _ {P : Type 0} (port_transition : P → PortCall → P → Type 0) where
-  answers_moved : (xs : List PortCall) (a b : QuotaPortsView P) → EvolvesBy (Meters port_transition) a xs b → b.made_progress ≡ progress_by xs a.made_progress
-  answers_moved [] a b h = ap (λ (m : QuotaPortsView P). m.made_progress) h
-  answers_moved (x ∷ xs) a b h = answers_moved xs h.0 b h.2 ∙ ap (progress_by xs) h.1.made_progress
-
-  -- progress before a turn began is cleared
-  pub turn_moved : (a m b : SessionView × QuotaPortsView P) → IsBegun (Meters port_transition) a m → (t : IsTurned (Meters port_transition) m b) →
-      b.1.made_progress ≡ progress_by t.exchange.call false
-  turn_moved a m b begun t =
-      answers_moved t.exchange.call m.1 b.1 t.exchange.ports ∙ ap (progress_by t.exchange.call) begun.1.made_progress
 
 -- ---- a place of a slab
 
@@ -76,7 +60,7 @@ module _ {P : Type 0} where
     beside = λ other apart. ap (λ (s : SlabView P). slice_get s.places other) e;
   }
 
-  pub one_there : (place : ℕ) (old new : SlabView P) (now : SlabPlace (SessionView × P)) → new ≡ with_place old place now →
+  pub one_there : (place : ℕ) (old new : SlabView P) (now : SlabPlace (SlotView P)) → new ≡ with_place old place now →
       ChangesOnlyAt place old new
   one_there place old new now e = record {
     limits = ap (λ (s : SlabView P). s.limits) e;
@@ -91,17 +75,17 @@ module _ {P : Type 0} where
   }
 
   -- if this is at a place, what holds of it holds of whatever is there
-  pub held_here : (slab : SlabView P) (place : ℕ) (now : SessionView × P) (Holds : SessionView × P → Type 0) →
+  pub held_here : (slab : SlabView P) (place : ℕ) (now : SlotView P) (Holds : SlotView P → Type 0) →
       IsAt slab place (Held now) → Holds now → IfHeldAt slab.places place Holds
   held_here slab place now Holds at h =
       λ held e. (let same : now ≡ held = cc (sym at ∙ e) in subst Holds same h)
 
-  pub none_here : (slab : SlabView P) (place : ℕ) (Holds : SessionView × P → Type 0) → IsAt slab place Free →
+  pub none_here : (slab : SlabView P) (place : ℕ) (Holds : SlotView P → Type 0) → IsAt slab place Free →
       IfHeldAt slab.places place Holds
   none_here slab place Holds at = λ held e. absurd (cc (sym at ∙ e))
 
   -- what holds of the session at each place, if it does at the only place that changed
-  pub each_held : (place : ℕ) (old new : SlabView P) (Holds : ℕ → SessionView × P → Type 0) → ChangesOnlyAt place old new →
+  pub each_held : (place : ℕ) (old new : SlabView P) (Holds : ℕ → SlotView P → Type 0) → ChangesOnlyAt place old new →
       ((other : ℕ) → IfHeldAt old.places other (Holds other)) → IfHeldAt new.places place (Holds place) →
       (other : ℕ) → IfHeldAt new.places other (Holds other)
   each_held place old new Holds only before here other = by (other == place) refl
@@ -111,14 +95,14 @@ module _ {P : Type 0} where
       by false e = λ held at. before other held (sym (only.beside other (eqb-false other place e)) ∙ at)
 
 module _ {P : Type 0} (port_transition : P → PortCall → P → Type 0) where
-  turn_there : (old : SlabView (QuotaPortsView P)) (place : ℕ) (trace : List (SystemCall P)) (new : SlabView (QuotaPortsView P)) →
+  turn_there : (old : SlabView P) (place : ℕ) (trace : List (SystemCall P)) (new : SlabView P) →
       TakesTurn port_transition old place trace new → ChangesOnlyAt place old new
   turn_there old place trace new h =
       there_then place old h.begun new (one_there place old h.begun (Held h.begins.1) h.begins.3)
       (one_there place h.begun new (Held h.runs.1) h.runs.3)
 
-  pub turns_there_only : (n : ℕ) (old : SlabView (QuotaPortsView P)) (place : ℕ) (trace : List (SystemCall P))
-      (new : SlabView (QuotaPortsView P)) → TurnsInRow port_transition n old place trace new → ChangesOnlyAt place old new
+  pub turns_there_only : (n : ℕ) (old : SlabView P) (place : ℕ) (trace : List (SystemCall P))
+      (new : SlabView P) → TurnsInRow port_transition n old place trace new → ChangesOnlyAt place old new
   turns_there_only zero old place trace new h = same_there place old new h.1
   turns_there_only (suc n) old place trace new h =
       there_then place old h.0 new (turns_there_only n old place h.1 h.0 h.4) (turn_there h.0 place h.2 new h.6)
@@ -126,21 +110,16 @@ module _ {P : Type 0} (port_transition : P → PortCall → P → Type 0) where
 -- ---- what holds of each call of a trace
 
 module _ {P : Type 0} (port_transition : P → PortCall → P → Type 0) (Q : SystemCall P → Type 0) where
-  all_begun : (place : ℕ) → ((before after : P) → Q (BeginsTurn place before after)) → (left : Option ℕ) (before after : P) →
-      All Q (beginning_where left place before after)
-  all_begun place each None before after = All-nil Q
-  all_begun place each (Some turns) before after = All-cons Q (BeginsTurn place before after) [] (each before after) (All-nil Q)
-
   pub all_turns : (place : ℕ) → ((before after : P) → Q (BeginsTurn place before after)) → (n : ℕ)
-      (old : SlabView (QuotaPortsView P)) (trace : List (SystemCall P)) (new : SlabView (QuotaPortsView P)) →
+      (old : SlabView P) (trace : List (SystemCall P)) (new : SlabView P) →
       TurnsInRow port_transition n old place trace new → All Q trace
   all_turns place each zero old trace new h = All-same Q trace [] h.0 (All-nil Q)
   all_turns place each (suc n) old trace new h =
       let begins = h.6.begins in
       All-same Q trace (h.1 ++ h.2) h.3
       (All-append Q h.1 h.2 (all_turns place each n old h.1 h.0 h.4)
-      (All-same Q h.2 (beginning_where begins.1.1.turns_left place begins.0.1.ports begins.1.1.ports) begins.4.1
-      (all_begun place each begins.1.1.turns_left begins.0.1.ports begins.1.1.ports)))
+      (All-same Q h.2 (BeginsTurn place begins.0.ports begins.1.ports ∷ []) begins.4.1
+      (All-cons Q (BeginsTurn place begins.0.ports begins.1.ports) [] (each begins.0.ports begins.1.ports) (All-nil Q))))
 
   pub all_rests : (place : ℕ) → ((ports : P) (rests : Bool) → Q (Rests place ports rests)) → (moved : Bool) (ports : P)
       (trace : List (SystemCall P)) (rests : Bool) → RestsBy moved place ports trace rests → All Q trace
@@ -148,14 +127,15 @@ module _ {P : Type 0} (port_transition : P → PortCall → P → Type 0) (Q : S
   all_rests place each false ports trace rests h =
       All-same Q trace (Rests place ports rests ∷ []) h (All-cons Q (Rests place ports rests) [] (each ports rests) (All-nil Q))
 
-  pub all_shown : (shown : Bool) (places : List (SlabPlace (SessionView × QuotaPortsView P))) →
+  pub all_shown : (shown : Bool) (places : List (SlabPlace (SlotView P))) →
       ((ports : P) (status : SessionStatus) → Q (Shows ports status)) → All Q (shows_where shown places)
   all_shown false places each = All-nil Q
   all_shown true [] each = All-nil Q
   all_shown true (Free ∷ places) each = all_shown true places each
   all_shown true (Kept ∷ places) each = all_shown true places each
   all_shown true (Held now ∷ places) each =
-      All-cons Q (Shows now.1.ports (status_of now.0 now.1.bytes)) (shows_where true places) (each now.1.ports (status_of now.0 now.1.bytes))
+      All-cons Q (Shows now.ports (status_of now.session now.meter.moved.bytes)) (shows_where true places)
+      (each now.ports (status_of now.session now.meter.moved.bytes))
       (all_shown true places each)
 
 -- a session that its port calls since the opening of a run lead to, with its counts and its look-ups
@@ -165,7 +145,7 @@ IsReached limits history g = RefinesRun (untouched limits) history g
 module _ {P : Type 0} (port_transition : P → PortCall → P → Type 0) (settings : Settings) where
   -- ---- a longer trace
 
-  abbrev pub later : (Kind : Limits → List PortCall → SessionView → Type 0) (xs ys : List (SystemCall P)) (now : SessionView × QuotaPortsView P) →
+  abbrev pub later : (Kind : Limits → List PortCall → SessionView → Type 0) (xs ys : List (SystemCall P)) (now : SlotView P) →
       IsSessionOfRun port_transition Kind settings xs now → IsSessionOfRun port_transition Kind settings (xs ++ ys) now
   later Kind xs ys now h = record {
     place = h.place;
@@ -174,6 +154,7 @@ module _ {P : Type 0} (port_transition : P → PortCall → P → Type 0) (setti
     history = h.history;
     answered = h.answered;
     stands = h.stands;
+    metered = h.metered;
   }
 
   gone_later : (xs ys : List (SystemCall P)) (answer : SystemCall P) → RetiresClosed port_transition settings xs answer →
@@ -191,18 +172,18 @@ module _ {P : Type 0} (port_transition : P → PortCall → P → Type 0) (setti
 
   module _ (all : List (SystemCall P)) where
     -- a session that began at this place
-    abbrev pub Reached : ℕ → SessionView × QuotaPortsView P → Type 0
+    abbrev pub Reached : ℕ → SlotView P → Type 0
     Reached place now = (h : IsSessionOfRun port_transition IsReached settings all now) × (h.place ≡ place)
-        × IsCut port_transition (run_limits settings) settings.turns h.history now
+        × Metering (run_limits settings) settings.turns h.history now
 
-    abbrev pub Served : ℕ → SessionView × QuotaPortsView P → Type 0
+    abbrev pub Served : ℕ → SlotView P → Type 0
     Served place now = (h : IsServed port_transition settings all now) × (h.place ≡ place)
-        × IsCut port_transition (run_limits settings) settings.turns h.history now
+        × Metering (run_limits settings) settings.turns h.history now
 
     abbrev pub Gone : SystemCall P → Type 0
     Gone = RetiresClosed port_transition settings all
 
-    pub still : (place : ℕ) (now : SessionView × QuotaPortsView P) → Served place now → Reached place now
+    pub still : (place : ℕ) (now : SlotView P) → Served place now → Reached place now
     still place now h = (
       record {
         place = h.0.place;
@@ -211,78 +192,67 @@ module _ {P : Type 0} (port_transition : P → PortCall → P → Type 0) (setti
         history = h.0.history;
         answered = h.0.answered;
         stands = h.0.stands.1.whole;
+        metered = h.0.metered;
       },
       h.1,
       h.2,
     )
 
-    begun : (place : ℕ) (a b : SessionView × QuotaPortsView P) → IsBegun (Meters port_transition) a b → Reached place a → Reached place b
-    begun place a b t h =
+    taken : (place : ℕ) (a m b : SlotView P) → IsSlotBegun port_transition a m → (t : IsSlotTurned port_transition m b) →
+        Reached place a → Served place b
+    taken place a m b begins t h =
         let own = h.0 in
+        let limits = run_limits settings in
+        let turn = t.turned.exchange in
         let longer = own.history ++ TurnBegins ∷ [] in
-        let stands : IsReached (run_limits settings) longer b.0 =
-        subst (λ (g : SessionView). IsReached (run_limits settings) longer g) (sym t.0)
-        (relays_append (untouched (run_limits settings)) own.history a.0 (TurnBegins ∷ []) a.0 own.stands
-        (turn_begins a.0)) in (
+        let began : IsReached limits longer m.session =
+        subst (λ (g : SessionView). IsReached limits longer g) (sym begins.session)
+        (relays_append (untouched limits) own.history a.session (TurnBegins ∷ []) a.session own.stands (turn_begins a.session)) in
+        let joined : longer ++ turn.call ≡ own.history ++ TurnBegins ∷ turn.call =
+        append_assoc own.history (TurnBegins ∷ []) turn.call in
+        let stands : IsServedSession limits (own.history ++ TurnBegins ∷ turn.call) b.session =
+        subst (λ (l : List PortCall). IsServedSession limits l b.session) joined
+        (turn.session.headline limits longer began.sends, turn.session.totals limits longer began) in
+        let meter = metering_turn port_transition limits settings.turns own.history own.stands.sends.effects a m b
+        own.stands.sends.run begins t h.2 in (
           record {
             place = own.place;
             ports = own.ports;
             came = own.came;
-            history = longer;
-            answered = transition_then (Meters port_transition) own.history (TurnBegins ∷ []) (fresh own.ports settings.turns) a.1 b.1
-                own.answered (b.1, t.1, refl);
+            history = own.history ++ TurnBegins ∷ turn.call;
+            answered = transition_then port_transition own.history (TurnBegins ∷ turn.call) own.ports a.ports b.ports own.answered
+                (m.ports, begins.ports, turn.ports);
             stands = stands;
+            metered = is_metered limits settings.turns (own.history ++ TurnBegins ∷ turn.call) b stands.0.sends.effects
+                stands.0.sends.run meter;
           },
           h.1,
-          cut_begun port_transition (run_limits settings) settings.turns own.history own.ports a b t own.answered own.stands.sends
-              stands.sends
-              h.2,
-        )
-
-    turned : (place : ℕ) (a b : SessionView × QuotaPortsView P) → IsTurned (Meters port_transition) a b → Reached place a → Served place b
-    turned place a b t h =
-        let own = h.0 in
-        let stands : IsServedSession (run_limits settings) (own.history ++ t.exchange.call) b.0 = (
-          t.exchange.session.headline (run_limits settings) own.history own.stands.sends,
-          t.exchange.session.totals (run_limits settings) own.history own.stands,
-        ) in (
-          record {
-            place = own.place;
-            ports = own.ports;
-            came = own.came;
-            history = own.history ++ t.exchange.call;
-            answered = transition_then (Meters port_transition) own.history t.exchange.call (fresh own.ports settings.turns) a.1 b.1
-                own.answered t.exchange.ports;
-            stands = stands;
-          },
-          h.1,
-          cut_turn port_transition (run_limits settings) settings.turns own.history own.ports a b t own.answered own.stands.sends
-              stands.0.sends h.2,
+          meter,
         )
 
     -- a turn serves its session
-    turn_serves : (old : SlabView (QuotaPortsView P)) (place : ℕ) (trace : List (SystemCall P))
-        (new : SlabView (QuotaPortsView P)) → IfHeldAt old.places place (Reached place) →
+    turn_serves : (old : SlabView P) (place : ℕ) (trace : List (SystemCall P))
+        (new : SlabView P) → IfHeldAt old.places place (Reached place) →
         TakesTurn port_transition old place trace new → IfHeldAt new.places place (Served place)
     turn_serves old place trace new before h =
-        let first = begun place h.begins.0 h.begins.1 h.begins.4.0 (before h.begins.0 h.begins.2) in
         let there = changed_there (OpensTurn port_transition place trace) old place h.begun h.begins in
         let same : h.begins.1 ≡ h.runs.0 = cc (sym there ∙ h.runs.2) in
-        held_here new place h.runs.1 (Served place) (changed_there (IsTurned (Meters port_transition)) h.begun place new h.runs)
-        (turned place h.runs.0 h.runs.1 h.runs.4 (subst (Reached place) same first))
+        held_here new place h.runs.1 (Served place) (changed_there (IsSlotTurned port_transition) h.begun place new h.runs)
+        (taken place h.begins.0 h.runs.0 h.runs.1 (subst (IsSlotBegun port_transition h.begins.0) same h.begins.4.0) h.runs.4
+        (before h.begins.0 h.begins.2))
 
     -- and so do its turns, one at least
-    turns_reach : (n : ℕ) (old : SlabView (QuotaPortsView P)) (place : ℕ) (trace : List (SystemCall P))
-        (new : SlabView (QuotaPortsView P)) → IfHeldAt old.places place (Reached place) →
+    turns_reach : (n : ℕ) (old : SlabView P) (place : ℕ) (trace : List (SystemCall P))
+        (new : SlabView P) → IfHeldAt old.places place (Reached place) →
         TurnsInRow port_transition n old place trace new → IfHeldAt new.places place (Reached place)
     turns_reach zero old place trace new before h =
-        subst (λ (s : SlabView (QuotaPortsView P)). IfHeldAt s.places place (Reached place)) (sym h.1) before
+        subst (λ (s : SlabView P). IfHeldAt s.places place (Reached place)) (sym h.1) before
     turns_reach (suc n) old place trace new before h =
         λ held at. still place held
         (turn_serves h.0 place h.2 new (turns_reach n old place h.1 h.0 before h.4) h.6 held at)
 
-    pub turns_serve : (n : ℕ) (old : SlabView (QuotaPortsView P)) (place : ℕ) (trace : List (SystemCall P))
-        (new : SlabView (QuotaPortsView P)) → 0 < n → IfHeldAt old.places place (Reached place) →
+    pub turns_serve : (n : ℕ) (old : SlabView P) (place : ℕ) (trace : List (SystemCall P))
+        (new : SlabView P) → 0 < n → IfHeldAt old.places place (Reached place) →
         TurnsInRow port_transition n old place trace new → IfHeldAt new.places place (Served place)
     turns_serve zero old place trace new some before h = absurd (omega (arith, some))
     turns_serve (suc n) old place trace new some before h =
@@ -290,35 +260,22 @@ module _ {P : Type 0} (port_transition : P → PortCall → P → Type 0) (setti
 
     -- ---- the end of a session
 
-    some_ending : (o : Option Ending) → is_some o ≡ true → (ending : Ending) × (o ≡ Some ending)
-    some_ending None e = absurd (cc)
-    some_ending (Some ending) e = (ending, refl)
-
     -- the reported end of a session is its own
-    ended : (place : SessionView × QuotaPortsView P) → is_closed place.0 ≡ true → (n : ℕ) (h : Served n place) →
-        IsEndOf (run_limits settings) settings.turns h.0.history place.0 (end_of place)
+    ended : (place : SlotView P) → is_closed place.session ≡ true → (n : ℕ) (h : Served n place) →
+        IsEndOf (run_limits settings) settings.turns h.0.history place.session (end_of place)
     ended place closed n h =
-        let stands = h.0.stands.0.sends in
-        let told = ending_known place.0.state.phase in
-        let over = closed_over (is_over place.0.state.phase) _ closed in
-        let own = some_ending (ending_in place.0.state.phase) (told ∙ over) in (
-          h.2.effects,
-          h.2.state,
-          h.2.run,
-          ap (cause_by place.1.first_synthetic_end) own.1 ∙ cut_cause h.2.state place.0.state place.1.first_synthetic_end own.0 h.2.cut own.1,
-          refl,
-          cut_field h.2.state place.0.state place.1.first_synthetic_end h.2.cut,
-        )
+        end_metered (run_limits settings) settings.turns h.0.history place h.0.stands.0.sends.effects h.0.stands.0.sends.run
+        (closed_over (is_over place.session.state.phase) _ closed) h.2
 
     spoken : (b : Bool) → All Gone (spent_notice b)
     spoken true = All-cons Gone (Notifies TurnsSpent) [] tt (All-nil Gone)
     spoken false = All-nil Gone
 
-    parted : (place : ℕ) (now : SessionView × QuotaPortsView P) → is_closed now.0 ≡ true → Served place now →
-        All Gone (retirement place now.1 (end_of now))
+    parted : (place : ℕ) (now : SlotView P) → is_closed now.session ≡ true → Served place now →
+        All Gone (retirement place now.ports now.meter (end_of now))
     parted place now e h =
-        All-push Gone (spent_notice (is_none now.1.turns_left)) (Retires place now.1.ports (end_of now))
-        (spoken (is_none now.1.turns_left)) (now, refl, e, (h.0, h.1, ended now e place h))
+        All-push Gone (spent_notice (has_spent_turns now.meter)) (Retires place now.ports (end_of now))
+        (spoken (has_spent_turns now.meter)) (now, refl, e, (h.0, h.1, ended now e place h))
 
     -- ---- a visit
 
@@ -333,27 +290,27 @@ module _ {P : Type 0} (port_transition : P → PortCall → P → Type 0) (setti
 
     stays : (old new : ServiceView P) → AllServed old → new.slab ≡ old.slab → AllServed new
     stays old new held e =
-        subst (λ (s : SlabView (QuotaPortsView P)). (place : ℕ) → IfHeldAt s.places place (Served place)) (sym e) held
+        subst (λ (s : SlabView P). (place : ℕ) → IfHeldAt s.places place (Served place)) (sym e) held
 
-    left : (is : Bool) (now : SessionView × QuotaPortsView P) (old : ServiceView P) (place : ℕ) (trace : List (SystemCall P))
-        (new : ServiceView P) → is_closed now.0 ≡ is → IsAt old.slab place (Held now) → AllServed old →
+    left : (is : Bool) (now : SlotView P) (old : ServiceView P) (place : ℕ) (trace : List (SystemCall P))
+        (new : ServiceView P) → is_closed now.session ≡ is → IsAt old.slab place (Held now) → AllServed old →
         LeavesVisit is now old place trace new → Serves trace old new
     left true now old place trace new e at held h =
         let slab = ap (λ (s : ServiceView P). s.slab) h.1 in
         let free : IsAt new.slab place Free =
-        ap (λ (s : SlabView (QuotaPortsView P)). slice_get s.places place) slab ∙ get_set old.slab.places place Free (Held now) at in
+        ap (λ (s : SlabView P). slice_get s.places place) slab ∙ get_set old.slab.places place Free (Held now) at in
         let only = one_there place old.slab new.slab Free slab in
         record {
           limits = only.limits;
           held = each_held place old.slab new.slab Served only held (none_here new.slab place (Served place) free);
-          gone = All-same Gone trace (retirement place now.1 (end_of now)) h.0 (parted place now e (held place now at));
+          gone = All-same Gone trace (retirement place now.ports now.meter (end_of now)) h.0 (parted place now e (held place now at));
         }
     left false now old place trace new e at held h =
         let slab = ap (λ (s : ServiceView P). s.slab) h.2 ∙ by h.0 in
         record {
-          limits = ap (λ (s : SlabView (QuotaPortsView P)). s.limits) slab;
+          limits = ap (λ (s : SlabView P). s.limits) slab;
           held = stays old new held slab;
-          gone = all_rests port_transition Gone place (λ ports rests. tt) now.1.made_progress now.1.ports trace h.0 h.1;
+          gone = all_rests port_transition Gone place (λ ports rests. tt) now.meter.moved.made_progress now.ports trace h.0 h.1;
         }
       where
         by : (rests : Bool) → (if rests then old else queued_again old place).slab ≡ old.slab
@@ -372,7 +329,7 @@ module _ {P : Type 0} (port_transition : P → PortCall → P → Type 0) (setti
         let made = h.takes.made in
         let only = turns_there_only port_transition turns old.slab place h.turning h.turned made in
         let here = turns_serve turns old.slab place h.turning h.turned h.takes.some held.1 made in
-        let goes = left (is_closed h.now.0) h.now mid place h.leaving new refl h.there (each only here) h.leaves in
+        let goes = left (is_closed h.now.session) h.now mid place h.leaving new refl h.there (each only here) h.leaves in
         record {
           limits = goes.limits ∙ only.limits;
           held = goes.held;
@@ -394,23 +351,27 @@ module _ {P : Type 0} (port_transition : P → PortCall → P → Type 0) (setti
     -- a session in its opening state, with the ports that a connect delivered
     pub opened_reached : (old : ServiceView P) (place : ℕ) (ports : P) (opened : SessionView) →
         old.slab.limits ≡ run_limits settings → old.counters.turns ≡ settings.turns → IsNew old.slab.limits opened →
-        Contains all (Connects place (Ready ports)) → Reached place (opened, fresh ports old.counters.turns)
+        Contains all (Connects place (Ready ports)) → Reached place (new_slot opened ports old.counters.turns)
     opened_reached old place ports opened limits quota new came =
-        let stands = new_stands (run_limits settings) opened (subst (λ (l : Limits). IsNew l opened) limits new) in (
+        let stands = new_stands (run_limits settings) opened (subst (λ (l : Limits). IsNew l opened) limits new) in
+        let meter : Metering (run_limits settings) settings.turns [] (new_slot opened ports old.counters.turns) =
+        subst (λ (n : ℕ). Metering (run_limits settings) settings.turns [] (new_slot opened ports n)) (sym quota)
+        (metering_begins (run_limits settings) settings.turns opened ports (ap (λ (s : SessionState). is_over s.phase) new.state)) in (
           record {
             place = place;
             ports = ports;
             came = came;
             history = [];
-            answered = ap (fresh ports) quota;
+            answered = refl;
             stands = stands;
+            metered = is_metered (run_limits settings) settings.turns [] (new_slot opened ports old.counters.turns)
+                stands.sends.effects stands.sends.run meter;
           },
           refl,
-          subst (λ (n : ℕ). IsCut port_transition (run_limits settings) settings.turns [] (opened, fresh ports n)) (sym quota)
-              (cut_begins port_transition (run_limits settings) settings.turns opened ports stands.sends),
+          meter,
         )
 
-    visit_serves : (at : Option (SlabPlace (SessionView × QuotaPortsView P))) (old : ServiceView P) (place turns : ℕ)
+    visit_serves : (at : Option (SlabPlace (SlotView P))) (old : ServiceView P) (place turns : ℕ)
         (trace : List (SystemCall P)) (new : ServiceView P) → slice_get old.slab.places place ≡ at →
         ((n : ℕ) (ports : P) → Contains trace (Connects n (Ready ports)) → Contains all (Connects n (Ready ports))) →
         old.slab.limits ≡ run_limits settings → old.counters.turns ≡ settings.turns → AllServed old →
@@ -418,14 +379,14 @@ module _ {P : Type 0} (port_transition : P → PortCall → P → Type 0) (setti
     visit_serves None old place turns trace new there within limits quota held h =
         let slab = ap (λ (s : ServiceView P). s.slab) h.2 in
         record {
-          limits = ap (λ (s : SlabView (QuotaPortsView P)). s.limits) slab;
+          limits = ap (λ (s : SlabView P). s.limits) slab;
           held = stays old new held slab;
           gone = All-same Gone trace [] h.1 (All-nil Gone);
         }
     visit_serves (Some Free) old place turns trace new there within limits quota held h =
         let slab = ap (λ (s : ServiceView P). s.slab) h.2 in
         record {
-          limits = ap (λ (s : SlabView (QuotaPortsView P)). s.limits) slab;
+          limits = ap (λ (s : SlabView P). s.limits) slab;
           held = stays old new held slab;
           gone = All-same Gone trace [] h.1 (All-nil Gone);
         }
@@ -435,10 +396,10 @@ module _ {P : Type 0} (port_transition : P → PortCall → P → Type 0) (setti
             JoinsBy port_transition connect old place turns joining new → Serves trace old new
         by (Ready ports) joining e m =
             let opens = m.1 in
-            let now : SessionView × QuotaPortsView P = (opens.0, fresh ports old.counters.turns) in
+            let now : SlotView P = new_slot opens.0 ports old.counters.turns in
             let only = one_there place old.slab m.0 (Held now) opens.2 in
             let at : IsAt m.0 place (Held now) =
-            ap (λ (s : SlabView (QuotaPortsView P)). slice_get s.places place) opens.2
+            ap (λ (s : SlabView P). slice_get s.places place) opens.2
             ∙ get_set old.slab.places place (Held now) Kept there in
             let first = opened_reached old place ports opens.0 limits quota opens.1
             (within place ports (subst (λ (l : List (SystemCall P)). Contains l (Connects place (Ready ports))) (sym e)
@@ -456,7 +417,7 @@ module _ {P : Type 0} (port_transition : P → PortCall → P → Type 0) (setti
         by Failed joining e m =
             let slab = ap (λ (s : ServiceView P). s.slab) m.2 in
             let free : IsAt new.slab place Free =
-            ap (λ (s : SlabView (QuotaPortsView P)). slice_get s.places place) slab ∙ get_set old.slab.places place Free Kept there in
+            ap (λ (s : SlabView P). slice_get s.places place) slab ∙ get_set old.slab.places place Free Kept there in
             let only = one_there place old.slab new.slab Free slab in
             record {
               limits = only.limits;
@@ -469,7 +430,7 @@ module _ {P : Type 0} (port_transition : P → PortCall → P → Type 0) (setti
         by Pending joining e m =
             let slab = ap (λ (s : ServiceView P). s.slab) m.2 in
             record {
-              limits = ap (λ (s : SlabView (QuotaPortsView P)). s.limits) slab;
+              limits = ap (λ (s : SlabView P). s.limits) slab;
               held = stays old new held slab;
               gone = All-same Gone trace (Connects place Pending ∷ [])
                   (e ∙ ap (λ (l : List (SystemCall P)). Connects place Pending ∷ l) m.1)
@@ -486,7 +447,7 @@ module _ {P : Type 0} (port_transition : P → PortCall → P → Type 0) (setti
     visits_serve [] turns old trace new within limits quota held h =
         let slab = ap (λ (s : ServiceView P). s.slab) h.2 in
         record {
-          limits = ap (λ (s : SlabView (QuotaPortsView P)). s.limits) slab;
+          limits = ap (λ (s : SlabView P). s.limits) slab;
           held = stays old new held slab;
           gone = All-same Gone trace [] h.1 (All-nil Gone);
         }
@@ -513,7 +474,7 @@ module _ {P : Type 0} (port_transition : P → PortCall → P → Type 0) (setti
     admitted old trace new held (inr none) =
         let slab = ap (λ (s : ServiceView P). s.slab) none.2 in
         record {
-          limits = ap (λ (s : SlabView (QuotaPortsView P)). s.limits) slab;
+          limits = ap (λ (s : SlabView P). s.limits) slab;
           held = stays old new held slab;
           gone = All-same Gone trace [] none.1 (All-nil Gone);
         }
@@ -524,7 +485,7 @@ module _ {P : Type 0} (port_transition : P → PortCall → P → Type 0) (setti
         by true e kept =
             let slab = ap (λ (s : ServiceView P). s.slab) kept in
             let at : IsAt new.slab asks.place Kept =
-            ap (λ (s : SlabView (QuotaPortsView P)). slice_get s.places asks.place) slab
+            ap (λ (s : SlabView P). slice_get s.places asks.place) slab
             ∙ get_set old.slab.places asks.place Kept Free asks.free in
             let only = one_there asks.place old.slab new.slab Kept slab in
             record {
@@ -536,7 +497,7 @@ module _ {P : Type 0} (port_transition : P → PortCall → P → Type 0) (setti
         by false e kept =
             let slab = ap (λ (s : ServiceView P). s.slab) kept in
             record {
-              limits = ap (λ (s : SlabView (QuotaPortsView P)). s.limits) slab;
+              limits = ap (λ (s : SlabView P). s.limits) slab;
               held = stays old new held slab;
               gone = All-same Gone trace (Accepts asks.place false ∷ []) e
                   (All-cons Gone (Accepts asks.place false) [] tt (All-nil Gone));
@@ -610,8 +571,8 @@ module _ {P : Type 0} (port_transition : P → PortCall → P → Type 0) (setti
         limit = limit_then port_transition settings xs ys old new h.limit r;
       }
 
-  free_place : (count : ℕ) (place : ℕ) (now : SessionView × QuotaPortsView P) →
-      slice_get (all_free {T = SessionView × QuotaPortsView P} count) place ≡ Some (Held now) → ⊥
+  free_place : (count : ℕ) (place : ℕ) (now : SlotView P) →
+      slice_get (all_free {T = SlotView P} count) place ≡ Some (Held now) → ⊥
   free_place zero zero now e = cc
   free_place zero (suc place) now e = cc
   free_place (suc count) zero now e = cc
@@ -653,7 +614,7 @@ module _ {P : Type 0} (port_transition : P → PortCall → P → Type 0) (setti
   both_true false other e = absurd (cc)
 
   -- if each place is free, there is no session, and no connect is pending
-  nobody_left : (places : List (SlabPlace (SessionView × QuotaPortsView P))) → list_all is_free_place places ≡ true →
+  nobody_left : (places : List (SlabPlace (SlotView P))) → list_all is_free_place places ≡ true →
       (count_by is_held places ≡ 0) × (count_by is_kept places ≡ 0)
   nobody_left [] e = (refl, refl)
   nobody_left (Free ∷ places) e =
@@ -662,7 +623,7 @@ module _ {P : Type 0} (port_transition : P → PortCall → P → Type 0) (setti
   nobody_left (Kept ∷ places) e = absurd (cc)
   nobody_left (Held now ∷ places) e = absurd (cc)
 
-  free_places : (count : ℕ) → list_all is_free_place (all_free {T = SessionView × QuotaPortsView P} count) ≡ true
+  free_places : (count : ℕ) → list_all is_free_place (all_free {T = SlotView P} count) ≡ true
   free_places zero = refl
   free_places (suc count) = free_places count
 

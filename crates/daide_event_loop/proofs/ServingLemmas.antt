@@ -9,9 +9,8 @@ use Rattle.daide_io.specs.Ports.{PortCall}
 use Rattle.daide_io.specs.ReadyQueue.{queued_places}
 use Rattle.daide_driver.specs.declared.place.SlabPlace.{SlabPlace}
 use Rattle.daide_driver.specs.declared.place.SlabPlace.TheVariants.{Free, Kept, Held}
-use Rattle.daide_driver.specs.Slab.{is_so, is_at, is_held, IfHeldAt}
-use Rattle.daide_event_loop.specs.QuotaPorts.{QuotaPortsView}
-use Rattle.daide_io.specs.declared.byte_counts.ByteCounts.{ByteCounts}
+use Rattle.daide_driver.specs.Slab.{is_so, is_at, is_held, IfHeldAt, SlotView}
+use Rattle.daide_driver.specs.declared.meter.Meter.{Meter}
 use Rattle.daide_io.specs.declared.system.Orders.{Orders}
 use Rattle.daide_io.specs.declared.system.SessionStatus.{SessionStatus}
 use Rattle.daide_io.specs.System.{SystemCall, Polls, Shows, TransitsBy, status_of}
@@ -27,23 +26,23 @@ use Rattle.daide_event_loop.proofs.TransitLemmas.{transits_then}
 
 module _ {P : Type 0} where
   -- one more session is shown
-  pub show_more : (xs : List (SlabPlace (SessionView × QuotaPortsView P))) (i : ℕ) (now : SessionView × QuotaPortsView P) →
+  pub show_more : (xs : List (SlabPlace (SlotView P))) (i : ℕ) (now : SlotView P) →
       slice_get xs i ≡ Some (Held now) →
-      shows (take (suc i) xs) ≡ shows (take i xs) ++ Shows now.1.ports (status_of now.0 now.1.bytes) ∷ []
+      shows (take (suc i) xs) ≡ shows (take i xs) ++ Shows now.ports (status_of now.session now.meter.moved.bytes) ∷ []
   show_more [] zero now e = absurd (cc)
   show_more [] (suc i) now e = absurd (cc)
   show_more (Free ∷ xs) zero now e = absurd (cc)
   show_more (Kept ∷ xs) zero now e = absurd (cc)
   show_more (Held own ∷ xs) zero now e =
       let same : own ≡ now = cc in
-      ap (λ (h : SessionView × QuotaPortsView P). Shows h.1.ports (status_of h.0 h.1.bytes) ∷ []) same
+      ap (λ (h : SlotView P). Shows h.ports (status_of h.session h.meter.moved.bytes) ∷ []) same
   show_more (Free ∷ xs) (suc i) now e = show_more xs i now e
   show_more (Kept ∷ xs) (suc i) now e = show_more xs i now e
   show_more (Held own ∷ xs) (suc i) now e =
-      ap (λ (calls : List (SystemCall P)). Shows own.1.ports (status_of own.0 own.1.bytes) ∷ calls) (show_more xs i now e)
+      ap (λ (calls : List (SystemCall P)). Shows own.ports (status_of own.session own.meter.moved.bytes) ∷ calls) (show_more xs i now e)
 
   -- at a place without a session none is
-  pub show_none : (xs : List (SlabPlace (SessionView × QuotaPortsView P))) (i : ℕ) → is_so is_held (slice_get xs i) ≡ false →
+  pub show_none : (xs : List (SlabPlace (SlotView P))) (i : ℕ) → is_so is_held (slice_get xs i) ≡ false →
       shows (take (suc i) xs) ≡ shows (take i xs)
   show_none [] zero e = refl
   show_none [] (suc i) e = refl
@@ -53,24 +52,25 @@ module _ {P : Type 0} where
   show_none (Free ∷ xs) (suc i) e = show_none xs i e
   show_none (Kept ∷ xs) (suc i) e = show_none xs i e
   show_none (Held now ∷ xs) (suc i) e =
-      ap (λ (calls : List (SystemCall P)). Shows now.1.ports (status_of now.0 now.1.bytes) ∷ calls) (show_none xs i e)
+      ap (λ (calls : List (SystemCall P)). Shows now.ports (status_of now.session now.meter.moved.bytes) ∷ calls) (show_none xs i e)
 
 module _ {P S : Type 0} (transition : S → SystemCall P → S → Type 0) where
   -- the call for one more session, by what the slab returned of it
-  pub shown : (first s t : S) (places : List (SlabPlace (SessionView × QuotaPortsView P))) (i : ℕ) (session : SessionView)
-      (own : QuotaPortsView P) (ports : P) (bytes : ByteCounts) (status : SessionStatus) →
-      is_at is_held places i ≡ true → IfHeldAt places i (λ item. session ≡ item.0) → IfHeldAt places i (λ item. own ≡ item.1) →
-      ports ≡ own.ports → bytes ≡ own.bytes → status ≡ status_of session bytes →
+  pub shown : (first s t : S) (places : List (SlabPlace (SlotView P))) (i : ℕ) (session : SessionView)
+      (ports : P) (meter : Meter) (status : SessionStatus) → is_at is_held places i ≡ true →
+      IfHeldAt places i (λ item. session ≡ item.session) → IfHeldAt places i (λ item. ports ≡ item.ports) →
+      IfHeldAt places i (λ item. meter ≡ item.meter) → status ≡ status_of session meter.moved.bytes →
       TransitsBy transition first (shows (take i places)) s → transition s (Shows ports status) t →
       TransitsBy transition first (shows (take (suc i) places)) t
-  shown first s t places i session own ports bytes status item is_session is_own is_ports is_bytes is_status before shows_it =
+  shown first s t places i session ports meter status item is_session is_ports is_meter is_status before shows_it =
       let found = held_in (slice_get places i) item in
       let now = found.0 in
-      let a : session ≡ now.0 = is_session now found.1 in
-      let b : own ≡ now.1 = is_own now found.1 in
-      let call : Shows ports status ≡ Shows now.1.ports (status_of now.0 now.1.bytes) = cc in
+      let a : session ≡ now.session = is_session now found.1 in
+      let b : ports ≡ now.ports = is_ports now found.1 in
+      let d : meter ≡ now.meter = is_meter now found.1 in
+      let call : Shows ports status ≡ Shows now.ports (status_of now.session now.meter.moved.bytes) = cc in
       rw (show_more places i now found.1)
-      (transits_then transition (shows (take i places)) (Shows now.1.ports (status_of now.0 now.1.bytes) ∷ []) first s t before
+      (transits_then transition (shows (take i places)) (Shows now.ports (status_of now.session now.meter.moved.bytes) ∷ []) first s t before
       (t, subst (λ (one : SystemCall P). transition s one t) call shows_it, refl))
 
 -- ---- the visits of a round

@@ -1,6 +1,6 @@
 -- Turns whose calls made no progress: the session is as before, and what it was called for is what it needs now.
 use Rattle.std.proofs.Common.{◌≡◌, ℕ, zero, suc, ◌<◌, ◌-◌, Bool, true, false, List, [], ◌∷◌, ◌++◌, length}
-use Rattle.std.proofs.Common.{refl, sym, ap, ◌∙◌, subst, arith, append-nil, ◌⊎◌, inl, inr, ⊎_elim, Option, Some, None}
+use Rattle.std.proofs.Common.{refl, sym, ap, ◌∙◌, subst, arith, append-nil, ◌⊎◌, inl, inr, ⊎_elim}
 use Rattle.std.specs.Prelude.{◌||◌, min, Contains, All, if◌then◌else◌, drop}
 use Rattle.std.proofs.lemmas.Bool.{ltb-false, lt-ltb}
 use Rattle.std.proofs.lemmas.List.Elements.{All-nil, All-cons, All-weaker, All-contains, All-contains_itself}
@@ -9,21 +9,21 @@ use Rattle.daide_frame.specs.declared.side.Side.{Side}
 use Rattle.daide_frame.specs.declared.side.Side.TheVariants.{Bot, Server}
 use Rattle.daide_frame.specs.Side.{other}
 use Rattle.daide_frame.specs.Frames.{missing}
-use Rattle.daide_protocol.specs.Events.{Event, bytes_come}
-use Rattle.daide_protocol.specs.Machine.{Sent, Effect, Limits, SessionState, Runs, coming, is_over, initial_state}
+use Rattle.daide_protocol.specs.Events.{bytes_come}
+use Rattle.daide_protocol.specs.Machine.{Sent, Effect, SessionState, Runs, coming, is_over}
 use Rattle.daide_protocol.specs.Wires.{SessionView, queued, parts_of, next_part, parts_after, front_of, has_answer}
-use Rattle.daide_protocol.specs.Wires.{room_of, no_frame, is_closed, without, first_len, IsFrontOf, sent_to}
-use Rattle.daide_protocol.proofs.FramesHeard.{waited_for}
+use Rattle.daide_protocol.specs.Wires.{room_of, no_frame, without, first_len, IsFrontOf, sent_to}
 use Rattle.daide_io.specs.declared.ports.ClockEvent.{ClockEvent}
 use Rattle.daide_io.specs.declared.ports.ClockEvent.TheVariants.{NoEvent, ImTimeIsOver, StopIsRequested}
 use Rattle.daide_io.specs.declared.ports.Pull.{Pull}
 use Rattle.daide_io.specs.declared.ports.Pull.TheVariants.{Got, Idle, Ended}
 use Rattle.daide_io.specs.declared.ports.Put.{Put}
 use Rattle.daide_io.specs.declared.ports.Put.TheVariants.{Took, Failed}
-use Rattle.daide_io.specs.Ports.{PortCall, TurnBegins, Clock, Pulled, Offered, EvolvesBy, pulled_len, is_eventful}
+use Rattle.daide_io.specs.Ports.{PortCall, TurnBegins, Clock, Pulled, Offered, pulled_len, is_eventful}
 use Rattle.daide_driver.specs.Turn.{Hears, AsksClock, HandsFront, HasNone, Hands, Puts, Gets, HasNoRoom}
 use Rattle.daide_driver.specs.Turn.{FillsRoom, Pulls, Turn, most_pulled}
-use Rattle.daide_event_loop.specs.QuotaPorts.{QuotaPortsView, Meters, EvolvesWhile, IsSpentAnswer, is_gain, is_loss, progress_by}
+use Rattle.daide_driver.specs.declared.meter.Moved.{Moved}
+use Rattle.daide_driver.specs.Meter.{is_gain, is_loss, clock_moved, pull_moved, put_moved, moved_by}
 use Rattle.daide_event_loop.specs.Served.{turns_in}
 use Rattle.daide_event_loop.specs.Waiting.{MakesNoProgress, PullsIfRoom, OffersIfQueued}
 
@@ -53,26 +53,26 @@ no_event NoEvent e = refl
 no_event ImTimeIsOver e = absurd (cc)
 no_event StopIsRequested e = absurd (cc)
 
-pub still_calls : (xs : List PortCall) (moved : Bool) → turns_in xs ≡ 0 → progress_by xs moved ≡ false →
-    (moved ≡ false) × All MakesNoProgress xs
-still_calls [] moved none e = (e, All-nil MakesNoProgress)
-still_calls (TurnBegins ∷ xs) moved none e = absurd (omega (arith, none))
-still_calls (Clock event ∷ xs) moved none e =
-    let rest = still_calls xs (moved || is_eventful event) none e in (
-      left_false moved (is_eventful event) rest.0,
-      All-cons MakesNoProgress (Clock event) xs (no_event event (right_false moved (is_eventful event) rest.0)) rest.1,
+pub still_calls : (xs : List PortCall) (moved : Moved) → (moved_by xs moved).made_progress ≡ false → turns_in xs ≡ 0 →
+    (moved.made_progress ≡ false) × All MakesNoProgress xs
+still_calls [] moved e none = (e, All-nil MakesNoProgress)
+still_calls (TurnBegins ∷ xs) moved e none = absurd (omega (arith, none))
+still_calls (Clock event ∷ xs) moved e none =
+    let rest = still_calls xs (clock_moved event moved) e none in (
+      left_false moved.made_progress (is_eventful event) rest.0,
+      All-cons MakesNoProgress (Clock event) xs (no_event event (right_false moved.made_progress (is_eventful event) rest.0)) rest.1,
     )
-still_calls (Pulled side buffer pull bytes ∷ xs) moved none e =
-    let rest = still_calls xs (moved || is_gain pull) none e in (
-      left_false moved (is_gain pull) rest.0,
+still_calls (Pulled side buffer pull bytes ∷ xs) moved e none =
+    let rest = still_calls xs (pull_moved side pull moved) e none in (
+      left_false moved.made_progress (is_gain pull) rest.0,
       All-cons MakesNoProgress (Pulled side buffer pull bytes) xs
-          (no_gain pull (right_false moved (is_gain pull) rest.0)) rest.1,
+          (no_gain pull (right_false moved.made_progress (is_gain pull) rest.0)) rest.1,
     )
-still_calls (Offered side bytes put ∷ xs) moved none e =
-    let rest = still_calls xs (moved || is_loss put) none e in (
-      left_false moved (is_loss put) rest.0,
+still_calls (Offered side bytes put ∷ xs) moved e none =
+    let rest = still_calls xs (put_moved side put moved) e none in (
+      left_false moved.made_progress (is_loss put) rest.0,
       All-cons MakesNoProgress (Offered side bytes put) xs
-          (no_loss put (right_false moved (is_loss put) rest.0)) rest.1,
+          (no_loss put (right_false moved.made_progress (is_loss put) rest.0)) rest.1,
     )
 
 all_left : {X : Type 0} (Q : X → Type 0) (xs ys : List X) → All Q (xs ++ ys) → All Q xs
@@ -114,10 +114,6 @@ room_by state bots servers side =
 room_is : (g : SessionView) (side : Side) → room_of g side ≡ room_by g.state (queued g Bot) (queued g Server) side
 unfolding room_of
 room_is g side = refl
-
-room_free : (state : SessionState) (bots servers : List Sent) → is_over state.phase ≡ false → has_answer Bot bots ≡ false →
-    has_answer Bot servers ≡ false → room_by state bots servers Bot ≡ missing state.limits.cap (coming state Bot).pending
-room_free state bots servers over one two = rw (over, one, two) refl
 
 room_same : (a b : SessionView) → Same a b → (side : Side) → room_of b side ≡ room_of a side
 room_same a b h side =
@@ -313,96 +309,3 @@ turn_still a xs b h still =
       offered = by_sides (λ (one : Side). OffersIfQueued one b xs) Bot
           (offers_later Bot s b k.1 xs second s_to_b bot.1) (offers_later Server t b l.1 xs third t_to_b server.1);
     }
-
--- ---- beyond the quota
-
-module _ {P : Type 0} (port_transition : P → PortCall → P → Type 0) where
-  spent_by : (x : PortCall) (a b : P) (left : Option ℕ) → left ≡ None → EvolvesWhile port_transition left a x b →
-      IsSpentAnswer x
-  spent_by x a b None e h = h.0
-  spent_by x a b (Some n) e h = absurd (cc)
-
-  pub called_by : (x : PortCall) (a b : P) (left : Option ℕ) (n : ℕ) → left ≡ Some n →
-      EvolvesWhile port_transition left a x b → port_transition a x b
-  called_by x a b None n e h = absurd (cc)
-  called_by x a b (Some m) n e h = h
-
-  -- beyond the quota the ports inside are not called
-  pub spent_calls : (xs : List PortCall) (a b : QuotaPortsView P) → a.turns_left ≡ None → turns_in xs ≡ 0 →
-      EvolvesBy (Meters port_transition) a xs b → All IsSpentAnswer xs
-  spent_calls [] a b e none h = All-nil IsSpentAnswer
-  spent_calls (TurnBegins ∷ xs) a b e none h = absurd (omega (arith, none))
-  spent_calls (Clock event ∷ xs) a b e none h =
-      let left = h.1.turns_left ∙ e in
-      All-cons IsSpentAnswer (Clock event) xs
-      (spent_by (Clock event) a.ports h.0.ports h.0.turns_left left h.1.ports)
-      (spent_calls xs h.0 b left none h.2)
-  spent_calls (Pulled side buffer pull bytes ∷ xs) a b e none h =
-      let left = h.1.turns_left ∙ e in
-      All-cons IsSpentAnswer (Pulled side buffer pull bytes) xs
-      (spent_by (Pulled side buffer pull bytes) a.ports h.0.ports h.0.turns_left left h.1.ports)
-      (spent_calls xs h.0 b left none h.2)
-  spent_calls (Offered side bytes put ∷ xs) a b e none h =
-      let left = h.1.turns_left ∙ e in
-      All-cons IsSpentAnswer (Offered side bytes put) xs
-      (spent_by (Offered side bytes put) a.ports h.0.ports h.0.turns_left left h.1.ports)
-      (spent_calls xs h.0 b left none h.2)
-
-  -- within the quota they are called
-  pub inner_calls : (xs : List PortCall) (a b : QuotaPortsView P) (n : ℕ) → a.turns_left ≡ Some n → turns_in xs ≡ 0 →
-      EvolvesBy (Meters port_transition) a xs b → EvolvesBy port_transition a.ports xs b.ports × (b.turns_left ≡ Some n)
-  inner_calls [] a b n e none h =
-      (ap (λ (m : QuotaPortsView P). m.ports) h, ap (λ (m : QuotaPortsView P). m.turns_left) h ∙ e)
-  inner_calls (TurnBegins ∷ xs) a b n e none h = absurd (omega (arith, none))
-  inner_calls (Clock event ∷ xs) a b n e none h =
-      let left = h.1.turns_left ∙ e in
-      let rest = inner_calls xs h.0 b n left none h.2 in
-      ((h.0.ports, called_by (Clock event) a.ports h.0.ports h.0.turns_left n left h.1.ports, rest.0), rest.1)
-  inner_calls (Pulled side buffer pull bytes ∷ xs) a b n e none h =
-      let left = h.1.turns_left ∙ e in
-      let rest = inner_calls xs h.0 b n left none h.2 in
-      ((h.0.ports, called_by (Pulled side buffer pull bytes) a.ports h.0.ports h.0.turns_left n left h.1.ports, rest.0), rest.1)
-  inner_calls (Offered side bytes put ∷ xs) a b n e none h =
-      let left = h.1.turns_left ∙ e in
-      let rest = inner_calls xs h.0 b n left none h.2 in
-      ((h.0.ports, called_by (Offered side bytes put) a.ports h.0.ports h.0.turns_left n left h.1.ports, rest.0), rest.1)
-
--- a turn beyond the quota that made no progress leaves a closed session: it has no room, and nothing is queued
-pub spent_closed : (limits : Limits) (events : List Event) (effects : List Effect) (xs : List PortCall) (b : SessionView) →
-    Runs (initial_state limits) events effects b.state → All IsSpentAnswer xs → StillTurn xs b → All MakesNoProgress xs →
-    is_closed b ≡ true
-spent_closed limits events effects xs b run spent turn still = by (is_over b.state.phase) refl
-  where
-    nothing_queued : (side : Side) (none : Bool) → no_frame (queued b side) ≡ none → none ≡ true
-    nothing_queued side true e = refl
-    nothing_queued side false e =
-        let failed : Took 0 ≡ Failed =
-        All-contains IsSpentAnswer xs (Offered side (front_of b side) (Took 0)) spent (turn.offered side e) in
-        let differ = ap is_loss failed in absurd (cc)
-
-    no_room : 0 < room_of b Bot → ⊥
-    no_room room =
-        let pulled = turn.pulled Bot room in
-        let call = Pulled Bot (min (room_of b Bot) most_pulled) pulled.0 pulled.1 in
-        let ended : pulled.0 ≡ Ended = All-contains IsSpentAnswer xs call spent pulled.2 in
-        let gain = ap is_gain ended in
-        ⊎_elim (λ (e : pulled.0 ≡ Idle). let none = ap is_gain e in absurd (cc))
-        (λ (e : pulled.0 ≡ Got 0). let none = ap is_gain e in absurd (cc))
-        (All-contains MakesNoProgress xs call still pulled.2)
-
-    answers_none : (frames : List Sent) → no_frame frames ≡ true → has_answer Bot frames ≡ false
-    answers_none [] e = refl
-    answers_none (frame ∷ frames) e = absurd (cc)
-
-    empty : (side : Side) → no_frame (queued b side) ≡ true
-    empty side = nothing_queued side (no_frame (queued b side)) refl
-
-    by : (over : Bool) → is_over b.state.phase ≡ over → is_closed b ≡ true
-    by true e = let bot = empty Bot in let server = empty Server in rw (e, bot, server) refl
-    by false e =
-        let bot = answers_none (queued b Bot) (empty Bot) in
-        let server = answers_none (queued b Server) (empty Server) in
-        let room : room_of b Bot ≡ missing b.state.limits.cap (coming b.state Bot).pending =
-        room_is b Bot ∙ room_free b.state (queued b Bot) (queued b Server) e bot server in
-        let missing_some = waited_for events limits effects b.state run e Bot in
-        absurd (no_room (omega (arith, room, missing_some)))

@@ -1,19 +1,13 @@
--- The number of turns that began, and the turns left.
-use Rattle.std.proofs.Common.{◌≡◌, ℕ, zero, suc, ◌+◌, Bool, true, false, List, [], ◌∷◌, ◌++◌, Some, None}
-use Rattle.std.proofs.Common.{refl, sym, ap, ◌∙◌, arith, inl, inr}
-use Rattle.std.specs.Prelude.{nat_lt, is_none}
-use Rattle.std.proofs.lemmas.Bool.{lt-ltb, le-ltb, ltb-true, ltb-false}
-use Rattle.std.proofs.lemmas.Bool.Decides.{nat_tests}
+-- The number of turns that began, and the port calls within a quota of turns.
+use Rattle.std.proofs.Common.{◌≡◌, ℕ, zero, suc, ◌+◌, ◌<◌, ◌≤◌, List, [], ◌∷◌, ◌++◌, refl, ap, ◌∙◌, arith, inl, inr}
 use Rattle.daide_frame.specs.declared.side.Side.{Side}
 use Rattle.daide_frame.specs.declared.side.Side.TheVariants.{Bot, Server}
 use Rattle.daide_protocol.specs.Wires.{SessionView}
-use Rattle.daide_io.specs.Ports.{PortCall, TurnBegins, Clock, Pulled, Offered, EvolvesBy}
+use Rattle.daide_io.specs.Ports.{PortCall, TurnBegins, Clock, Pulled, Offered}
 use Rattle.daide_driver.specs.Turn.{Then, AsksClock, Puts, Pulls, Turn}
-use Rattle.daide_event_loop.specs.QuotaPorts.{QuotaPortsView, Meters, one_less}
-use Rattle.daide_event_loop.specs.Served.{turns_in}
-use Rattle.daide_event_loop.specs.Serving.{fresh}
+use Rattle.daide_event_loop.specs.Served.{turns_in, while_left}
 
-turns_append : (xs ys : List PortCall) → turns_in (xs ++ ys) ≡ turns_in xs + turns_in ys
+pub turns_append : (xs ys : List PortCall) → turns_in (xs ++ ys) ≡ turns_in xs + turns_in ys
 turns_append [] ys = omega arith
 turns_append (TurnBegins ∷ xs) ys = let rest = turns_append xs ys in omega (arith, rest)
 turns_append (Clock event ∷ xs) ys = turns_append xs ys
@@ -52,43 +46,59 @@ turn_begins_none =
     (then_begins (Puts Server) (Then (Pulls Bot) (Pulls Server)) (put_begins Server)
     (then_begins (Pulls Bot) (Pulls Server) (pull_begins Bot) (pull_begins Server))))
 
--- ---- the number of turns
+-- ---- the port calls within a quota
 
-pub none_below_zero : (n : ℕ) → nat_lt n 0 ≡ false
-none_below_zero n = grind (arith, nat_tests)
+-- all of them, if no more turns began
+pub all_within : (turns : ℕ) (xs : List PortCall) → turns_in xs ≤ turns → while_left turns xs ≡ xs
+all_within turns [] few = refl
+all_within zero (TurnBegins ∷ xs) few = absurd (omega (arith, few))
+all_within (suc turns) (TurnBegins ∷ xs) few =
+    ap (λ (l : List PortCall). TurnBegins ∷ l) (all_within turns xs (omega (arith, few)))
+all_within turns (Clock event ∷ xs) few = ap (λ (l : List PortCall). Clock event ∷ l) (all_within turns xs few)
+all_within turns (Pulled side buffer pull bytes ∷ xs) few =
+    ap (λ (l : List PortCall). Pulled side buffer pull bytes ∷ l) (all_within turns xs few)
+all_within turns (Offered side bytes put ∷ xs) few =
+    ap (λ (l : List PortCall). Offered side bytes put ∷ l) (all_within turns xs few)
 
-zero_below : (n : ℕ) → nat_lt 0 (suc n) ≡ true
-zero_below n = grind (arith, nat_tests)
+-- at least those of a prefix in which no more turns began
+pub within_then : (turns : ℕ) (xs ys : List PortCall) → turns_in xs ≤ turns →
+    (zs : List PortCall) × (while_left turns (xs ++ ys) ≡ xs ++ zs)
+within_then turns [] ys few = (while_left turns ys, refl)
+within_then zero (TurnBegins ∷ xs) ys few = absurd (omega (arith, few))
+within_then (suc turns) (TurnBegins ∷ xs) ys few =
+    let rest = within_then turns xs ys (omega (arith, few)) in
+    (rest.0, ap (λ (l : List PortCall). TurnBegins ∷ l) rest.1)
+within_then turns (Clock event ∷ xs) ys few =
+    let rest = within_then turns xs ys few in (rest.0, ap (λ (l : List PortCall). Clock event ∷ l) rest.1)
+within_then turns (Pulled side buffer pull bytes ∷ xs) ys few =
+    let rest = within_then turns xs ys few in
+    (rest.0, ap (λ (l : List PortCall). Pulled side buffer pull bytes ∷ l) rest.1)
+within_then turns (Offered side bytes put ∷ xs) ys few =
+    let rest = within_then turns xs ys few in
+    (rest.0, ap (λ (l : List PortCall). Offered side bytes put ∷ l) rest.1)
 
-pub below_alike : (m n : ℕ) → nat_lt m n ≡ nat_lt (suc m) (suc n)
-below_alike m n = go (nat_lt m n) refl
-  where
-    go : (b : Bool) → nat_lt m n ≡ b → nat_lt m n ≡ nat_lt (suc m) (suc n)
-    go true e = let less = ltb-true m n e in e ∙ sym (lt-ltb (suc m) (suc n) (omega (arith, less)))
-    go false e = let more = ltb-false m n e in e ∙ sym (le-ltb (suc m) (suc n) (omega (arith, more)))
+-- those before the first turn beyond it
+pub last_within : (turns : ℕ) (xs ys : List PortCall) → turns_in xs ≡ turns →
+    while_left turns (xs ++ TurnBegins ∷ ys) ≡ xs
+last_within zero [] ys all = refl
+last_within (suc turns) [] ys all = absurd (omega (arith, all))
+last_within zero (TurnBegins ∷ xs) ys all = absurd (omega (arith, all))
+last_within (suc turns) (TurnBegins ∷ xs) ys all =
+    ap (λ (l : List PortCall). TurnBegins ∷ l) (last_within turns xs ys (omega (arith, all)))
+last_within turns (Clock event ∷ xs) ys all = ap (λ (l : List PortCall). Clock event ∷ l) (last_within turns xs ys all)
+last_within turns (Pulled side buffer pull bytes ∷ xs) ys all =
+    ap (λ (l : List PortCall). Pulled side buffer pull bytes ∷ l) (last_within turns xs ys all)
+last_within turns (Offered side bytes put ∷ xs) ys all =
+    ap (λ (l : List PortCall). Offered side bytes put ∷ l) (last_within turns xs ys all)
 
-module _ {P : Type 0} (port_transition : P → PortCall → P → Type 0) where
-  -- ports beyond their quota stay so
-  stays_spent : (xs : List PortCall) (a b : QuotaPortsView P) → a.turns_left ≡ None → EvolvesBy (Meters port_transition) a xs b →
-      b.turns_left ≡ None
-  stays_spent [] a b e h = ap (λ (m : QuotaPortsView P). m.turns_left) h ∙ e
-  stays_spent (TurnBegins ∷ xs) a b e h = stays_spent xs h.0 b (h.1.turns_left ∙ ap one_less e) h.2
-  stays_spent (Clock event ∷ xs) a b e h = stays_spent xs h.0 b (h.1.turns_left ∙ e) h.2
-  stays_spent (Pulled side buffer pull bytes ∷ xs) a b e h = stays_spent xs h.0 b (h.1.turns_left ∙ e) h.2
-  stays_spent (Offered side bytes put ∷ xs) a b e h = stays_spent xs h.0 b (h.1.turns_left ∙ e) h.2
-
-  pub counted_from : (xs : List PortCall) (turns : ℕ) (a b : QuotaPortsView P) → a.turns_left ≡ Some turns →
-      EvolvesBy (Meters port_transition) a xs b → is_none b.turns_left ≡ nat_lt turns (turns_in xs)
-  counted_from [] turns a b e h =
-      ap (λ (m : QuotaPortsView P). is_none m.turns_left) h ∙ ap is_none e ∙ sym (none_below_zero turns)
-  counted_from (TurnBegins ∷ xs) zero a b e h =
-      ap is_none (stays_spent xs h.0 b (h.1.turns_left ∙ ap one_less e) h.2) ∙ sym (zero_below (turns_in xs))
-  counted_from (TurnBegins ∷ xs) (suc turns) a b e h =
-      counted_from xs turns h.0 b (h.1.turns_left ∙ ap one_less e) h.2 ∙ below_alike turns (turns_in xs)
-  counted_from (Clock event ∷ xs) turns a b e h = counted_from xs turns h.0 b (h.1.turns_left ∙ e) h.2
-  counted_from (Pulled side buffer pull bytes ∷ xs) turns a b e h = counted_from xs turns h.0 b (h.1.turns_left ∙ e) h.2
-  counted_from (Offered side bytes put ∷ xs) turns a b e h = counted_from xs turns h.0 b (h.1.turns_left ∙ e) h.2
-
-  pub turns_counted : (xs : List PortCall) (turns : ℕ) (ports : P) (now : QuotaPortsView P) →
-      EvolvesBy (Meters port_transition) (fresh ports turns) xs now → is_none now.turns_left ≡ nat_lt turns (turns_in xs)
-  turns_counted xs turns ports now h = counted_from xs turns (fresh ports turns) now refl h
+-- later ones add nothing once more turns began
+pub late_adds : (turns : ℕ) (xs ys : List PortCall) → turns < turns_in xs → while_left turns (xs ++ ys) ≡ while_left turns xs
+late_adds turns [] ys more = absurd (omega (arith, more))
+late_adds zero (TurnBegins ∷ xs) ys more = refl
+late_adds (suc turns) (TurnBegins ∷ xs) ys more =
+    ap (λ (l : List PortCall). TurnBegins ∷ l) (late_adds turns xs ys (omega (arith, more)))
+late_adds turns (Clock event ∷ xs) ys more = ap (λ (l : List PortCall). Clock event ∷ l) (late_adds turns xs ys more)
+late_adds turns (Pulled side buffer pull bytes ∷ xs) ys more =
+    ap (λ (l : List PortCall). Pulled side buffer pull bytes ∷ l) (late_adds turns xs ys more)
+late_adds turns (Offered side bytes put ∷ xs) ys more =
+    ap (λ (l : List PortCall). Offered side bytes put ∷ l) (late_adds turns xs ys more)

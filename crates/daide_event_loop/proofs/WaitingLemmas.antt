@@ -1,63 +1,47 @@
 -- The sessions of a run that rest: a turn without progress, the last call about a place, and the places that are not queued.
-use Rattle.std.proofs.Common.{◌≡◌, ◌≢◌, ℕ, zero, suc, ◌+◌, ◌<◌, Bool, true, false, List, [], ◌∷◌, ◌++◌, Option, Some, None}
-use Rattle.std.proofs.Common.{refl, sym, ap, ◌∙◌, subst, arith, ◌⊎◌, inl, inr}
+use Rattle.std.proofs.Common.{◌≡◌, ◌≢◌, ℕ, zero, suc, ◌+◌, ◌<◌, Bool, true, false, List, [], ◌∷◌, ◌++◌, Option, Some}
+use Rattle.std.proofs.Common.{refl, sym, ap, ◌∙◌, subst, arith, inl, inr}
 use Rattle.std.specs.Prelude.{All, if◌then◌else◌}
 use Rattle.std.proofs.lemmas.Bool.{ltb-false, le-ltb, lt-ltb}
 use Rattle.std.proofs.lemmas.List.Elements.{All-head, All-tail}
-use Rattle.daide_protocol.specs.Machine.{Limits, Effect, Runs, initial_state}
-use Rattle.daide_protocol.specs.Events.{Event}
-use Rattle.daide_protocol.specs.Wires.{SessionView, is_closed}
-use Rattle.daide_io.specs.Ports.{PortCall, TurnBegins}
+use Rattle.daide_io.specs.Ports.{PortCall}
 use Rattle.daide_io.specs.ReadyQueue.{ReadyView, queued_places, is_same, occurrences_of, is_among, is_queued, may_join, woken, woken_all, put_back}
 use Rattle.daide_io.specs.ReadyQueue.{TakesNext}
 use Rattle.daide_io.specs.System.{SystemCall, is_about, last_about}
-use Rattle.daide_driver.specs.Hub.{IsBegun, IsTurned}
-use Rattle.daide_event_loop.specs.QuotaPorts.{QuotaPortsView, Meters}
+use Rattle.daide_driver.specs.declared.meter.Meter.{Meter}
 use Rattle.daide_event_loop.specs.Waiting.{IsIdleSession}
 use Rattle.daide_event_loop.proofs.TurnCounts.{turn_begins_none}
-use Rattle.daide_event_loop.proofs.ServedLemmas.{turn_moved}
-use Rattle.daide_event_loop.proofs.StillTurns.{still_calls, turn_still, spent_calls, inner_calls, called_by, spent_closed}
+use Rattle.daide_event_loop.proofs.StillTurns.{still_calls, turn_still}
+use Rattle.daide_driver.specs.Slab.{SlotView, IsSlotBegun, IsSlotTurned}
 use Rattle.daide_event_loop.proofs.TurnCalls.{turn_made}
 
 -- ---- a turn without progress
 
 module _ {P : Type 0} (port_transition : P → PortCall → P → Type 0) where
-  -- a run of the machine leads to the state of a session
-  abbrev pub HasRun : Limits → SessionView × QuotaPortsView P → Type 0
-  HasRun limits now = (events : List Event) × (effects : List Effect) × Runs (initial_state limits) events effects now.0.state
-
-  -- after it the session is idle, unless its turns are spent and it is closed
-  pub idle_turn : (limits : Limits) (old mid new : SessionView × QuotaPortsView P) → IsBegun (Meters port_transition) old mid →
-      (t : IsTurned (Meters port_transition) mid new) → (left : Option ℕ) → mid.1.turns_left ≡ left →
-      new.1.made_progress ≡ false → HasRun limits new → (is_closed new.0 ≡ true) ⊎ IsIdleSession port_transition new
-  idle_turn limits old mid new begins t None none still run =
-      let quiet = turn_begins_none mid.0 t.exchange.call new.0 t.exchange.session.in_order in
-      let moved = turn_moved port_transition old mid new begins t in
-      let calls = still_calls t.exchange.call false quiet (sym moved ∙ still) in
-      inl (spent_closed limits run.0 run.1 t.exchange.call new.0 run.2
-      (spent_calls port_transition t.exchange.call mid.1 new.1 none quiet t.exchange.ports)
-      (turn_still mid.0 t.exchange.call new.0 t.exchange.session.in_order calls.1) calls.1)
-  idle_turn limits old mid new begins t (Some n) some still run =
-      let call = t.exchange.call in
-      let quiet = turn_begins_none mid.0 call new.0 t.exchange.session.in_order in
-      let moved = turn_moved port_transition old mid new begins t in
-      let calls = still_calls call false quiet (sym moved ∙ still) in
-      let inner = inner_calls port_transition call mid.1 new.1 n some quiet t.exchange.ports in
-      let turn = turn_still mid.0 call new.0 t.exchange.session.in_order calls.1 in
-      inr (record {
-        session = mid.0;
-        ports = old.1.ports;
-        begun = mid.1.ports;
+  -- after it the session is idle
+  pub idle_turn : (old mid new : SlotView P) → IsSlotBegun port_transition old mid → (t : IsSlotTurned port_transition mid new) →
+      new.meter.moved.made_progress ≡ false → IsIdleSession port_transition new
+  idle_turn old mid new begins t still =
+      let turn = t.turned.exchange in
+      let call = turn.call in
+      let calls = still_calls call (record { made_progress = false; bytes = mid.meter.moved.bytes })
+      (sym (ap (λ (m : Meter). m.moved.made_progress) t.meter) ∙ still)
+      (turn_begins_none mid.session call new.session turn.session.in_order) in
+      let quiet = turn_still mid.session call new.session turn.session.in_order calls.1 in
+      record {
+        session = mid.session;
+        ports = old.ports;
+        begun = mid.ports;
         turn = call;
-        runs = t.exchange.session.in_order;
-        begins = called_by port_transition TurnBegins old.1.ports mid.1.ports mid.1.turns_left n some begins.1.ports;
-        evolves = inner.0;
-        made = turn_made mid.0 call new.0 t.exchange.session.in_order;
+        runs = turn.session.in_order;
+        begins = begins.ports;
+        evolves = turn.ports;
+        made = turn_made mid.session call new.session turn.session.in_order;
         still = calls.1;
-        clock = turn.clock;
-        pulled = turn.pulled;
-        offered = turn.offered;
-      })
+        clock = quiet.clock;
+        pulled = quiet.pulled;
+        offered = quiet.offered;
+      }
 
 -- ---- the last call about a place
 

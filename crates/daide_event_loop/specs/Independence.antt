@@ -10,7 +10,7 @@ use Rattle.daide_io.specs.declared.system.SessionEnd.{SessionEnd}
 use Rattle.daide_io.specs.Ports.{PortCall, TurnBegins, Clock, Pulled, Offered, taken}
 use Rattle.daide_io.specs.System.{SystemCall}
 use Rattle.daide_settings.specs.declared.settings.Settings.{Settings}
-use Rattle.daide_event_loop.specs.QuotaPorts.{QuotaPortsView}
+use Rattle.daide_driver.specs.Slab.{SlotView}
 use Rattle.daide_event_loop.specs.Served.{run_limits, IsServed, IsEndOf}
 
 -- What one step of the ports returned, without what the session handed in: a turn began; what the clock reported;
@@ -51,11 +51,11 @@ pub record AreAlike (one : SessionView) (calls : List PortCall) (other : Session
 abbrev pub SessionsAreIndependent : {P Q : Type 0} → (P → PortCall → P → Type 0) → (Q → PortCall → Q → Type 0) → Type 0
 SessionsAreIndependent {P} {Q} transition other_transition =
     (settings other_settings : Settings) (trace : List (SystemCall P)) (other_trace : List (SystemCall Q))
-    (now : SessionView × QuotaPortsView P) (other_now : SessionView × QuotaPortsView Q)
+    (now : SlotView P) (other_now : SlotView Q)
     (session : IsServed transition settings trace now)
     (other_session : IsServed other_transition other_settings other_trace other_now) →
     HaveSameRules settings other_settings → results_of session.history ≡ results_of other_session.history →
-    AreAlike now.0 session.history other_now.0 other_session.history
-    × ((end other_end : SessionEnd) → IsEndOf (run_limits settings) settings.turns session.history now.0 end →
-    IsEndOf (run_limits other_settings) other_settings.turns other_session.history other_now.0 other_end →
+    AreAlike now.session session.history other_now.session other_session.history
+    × ((end other_end : SessionEnd) → IsEndOf (run_limits settings) settings.turns session.history now.session end →
+    IsEndOf (run_limits other_settings) other_settings.turns other_session.history other_now.session other_end →
     end ≡ other_end)

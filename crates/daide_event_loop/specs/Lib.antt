@@ -1,4 +1,3 @@
-pub mod QuotaPorts
 pub mod Serving
 pub mod Served
 pub mod Independence

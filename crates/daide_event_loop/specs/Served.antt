@@ -1,9 +1,9 @@
 -- The effect of a run on each of its sessions: those that it has, and those that it retired.
-use Rattle.std.specs.Prelude.{◌≡◌, ℕ, zero, suc, ◌+◌, ◌<◌, ◌≤◌, nat_lt, Bool, true, false, List, [], ◌∷◌}
-use Rattle.std.specs.Prelude.{Option, Some, None, is_none, Contains, All, if◌then◌else◌}
+use Rattle.std.specs.Prelude.{◌≡◌, ℕ, zero, suc, ◌+◌, ◌<◌, ◌≤◌, nat_lt, Bool, true, ◌&&◌, not, List, [], ◌∷◌}
+use Rattle.std.specs.Prelude.{Some, Contains, All, if◌then◌else◌}
 use Rattle.std.specs.List.{list_all}
-use Rattle.daide_protocol.specs.declared.ending.Ending.{Ending}
-use Rattle.daide_protocol.specs.Machine.{Limits, SessionState, Effect, Runs, ending_in}
+use Rattle.daide_protocol.specs.declared.ending.Ending.TheVariants.{Stopped}
+use Rattle.daide_protocol.specs.Machine.{Limits, SessionState, Effect, Runs, ending_in, is_over}
 use Rattle.daide_protocol.specs.Wires.{SessionView, is_closed}
 use Rattle.daide_words.specs.Words.{words_of}
 use Rattle.daide_protocol.specs.Config.{limits_with}
@@ -12,43 +12,27 @@ use Rattle.daide_io.specs.FaultField.{fault_field_of}
 use Rattle.daide_io.specs.Ports.{PortCall, TurnBegins, Clock, Pulled, Offered, EvolvesBy, events_of}
 use Rattle.daide_driver.specs.Headline.{untouched, IsBoundedAndExact}
 use Rattle.daide_driver.specs.Totals.{HasTotals}
-use Rattle.daide_driver.specs.Hub.{IsBegun, IsTurned}
+use Rattle.daide_driver.specs.Meter.{has_spent_turns}
 use Rattle.daide_settings.specs.declared.settings.Settings.{Settings}
 use Rattle.daide_io.specs.declared.system.Connect.TheVariants.{Ready, Failed}
 use Rattle.daide_io.specs.declared.system.Orders.{Orders}
-use Rattle.daide_io.specs.declared.system.Cause.{Cause}
-use Rattle.daide_io.specs.declared.system.Cause.TheVariants as Causes
 use Rattle.daide_io.specs.declared.system.SessionEnd.{SessionEnd}
-use Rattle.daide_event_loop.specs.QuotaPorts.{QuotaPortsView, Meters, progress_by}
 use Rattle.daide_io.specs.System.{SystemCall, Polls, Shows, Accepts, Connects, BeginsTurn, Rests, Retires, Notifies}
-use Rattle.daide_driver.specs.Slab.{IfHeldAt, is_free_place}
-use Rattle.daide_event_loop.specs.Serving.{ServiceView, fresh, initial_service, is_done, sessions_in, pending_in, Rounds, Serves}
+use Rattle.daide_driver.specs.Slab.{SlotView, IfHeldAt, is_free_place}
+use Rattle.daide_event_loop.specs.Serving.{ServiceView, cause_of, initial_service, is_done, sessions_in, pending_in, Rounds, Serves}
 use Rattle.daide_settings.specs.BotsInAll.{bots_in_all}
 
 -- the limits of a run's sessions
 abbrev pub run_limits : Settings → Limits
 run_limits settings = limits_with settings.config (words_of settings.words)
 
--- A session of a run: the connect of the bot at a place delivered its ports, with a full quota of turns; and by all its
--- port calls since, it has this property.
-pub record IsSessionOfRun {P : Type 0} (transition : P → PortCall → P → Type 0)
-    (Kind : Limits → List PortCall → SessionView → Type 0) (settings : Settings) (trace : List (SystemCall P))
-    (now : SessionView × QuotaPortsView P) : Type 0 where
-  pub place : ℕ
-  pub ports : P
-  pub came : Contains trace (Connects place (Ready ports))
-  pub history : List PortCall
-  pub answered : EvolvesBy (Meters transition) (fresh ports settings.turns) history now.1
-  pub stands : Kind (run_limits settings) history now.0
-
--- it is bounded and exact, and has its totals
-abbrev pub IsServedSession : Limits → List PortCall → SessionView → Type 0
-IsServedSession limits history g = IsBoundedAndExact limits history g × HasTotals limits history g
-
--- by all its port calls it is so
-abbrev pub IsServed : {P : Type 0} → (P → PortCall → P → Type 0) → Settings → List (SystemCall P) →
-    SessionView × QuotaPortsView P → Type 0
-IsServed transition = IsSessionOfRun transition IsServedSession
+-- how many turns began in a history
+abbrev pub turns_in : List PortCall → ℕ
+turns_in [] = 0
+turns_in (TurnBegins ∷ trace) = suc (turns_in trace)
+turns_in (Clock event ∷ trace) = turns_in trace
+turns_in (Pulled side buffer pull bytes ∷ trace) = turns_in trace
+turns_in (Offered side bytes put ∷ trace) = turns_in trace
 
 -- the port calls within the quota: those before the first turn beyond it
 abbrev pub while_left : ℕ → List PortCall → List PortCall
@@ -59,10 +43,41 @@ while_left turns (Clock event ∷ trace) = Clock event ∷ while_left turns trac
 while_left turns (Pulled side buffer pull bytes ∷ trace) = Pulled side buffer pull bytes ∷ while_left turns trace
 while_left turns (Offered side bytes put ∷ trace) = Offered side bytes put ∷ while_left turns trace
 
--- the event that ended a session, if there was one; otherwise its turns were spent while it was open
-abbrev pub cause_of : Option Ending → Cause
-cause_of (Some ending) = Causes.Session ending
-cause_of None = Causes.TurnsSpent
+-- What the meter of a session says, by all its port calls, for a quota of turns.
+pub record IsMetered {P : Type 0} (limits : Limits) (turns : ℕ) (history : List PortCall) (now : SlotView P) : Type 0 where
+  -- it has the bytes of all calls: those that pulls delivered from each side, and those that puts took for each
+  pub bytes : now.meter.moved.bytes ≡ bytes_of history
+  -- its turns are spent if and only if the session was open after all turns of the quota, and one more began
+  pub effects : List Effect
+  pub state : SessionState
+  pub run : Runs (untouched limits).state (events_of (while_left turns history)) effects state
+  pub spent : has_spent_turns now.meter ≡ (nat_lt turns (turns_in history) && not (is_over state.phase))
+  -- then its clock stopped it, as an operator does
+  pub stopped : has_spent_turns now.meter ≡ true → ending_in now.session.state.phase ≡ Some Stopped
+  -- a session of which more turns began is over
+  pub ends : turns < turns_in history → is_over now.session.state.phase ≡ true
+
+-- A session of a run: the connect of the bot at a place delivered its ports; by all its port calls since, it has this
+-- property, and its meter, which began with a full quota, is right.
+pub record IsSessionOfRun {P : Type 0} (transition : P → PortCall → P → Type 0)
+    (Kind : Limits → List PortCall → SessionView → Type 0) (settings : Settings) (trace : List (SystemCall P))
+    (now : SlotView P) : Type 0 where
+  pub place : ℕ
+  pub ports : P
+  pub came : Contains trace (Connects place (Ready ports))
+  pub history : List PortCall
+  pub answered : EvolvesBy transition ports history now.ports
+  pub stands : Kind (run_limits settings) history now.session
+  pub metered : IsMetered (run_limits settings) settings.turns history now
+
+-- it is bounded and exact, and has its totals
+abbrev pub IsServedSession : Limits → List PortCall → SessionView → Type 0
+IsServedSession limits history g = IsBoundedAndExact limits history g × HasTotals limits history g
+
+-- by all its port calls it is so
+abbrev pub IsServed : {P : Type 0} → (P → PortCall → P → Type 0) → Settings → List (SystemCall P) →
+    SlotView P → Type 0
+IsServed transition = IsSessionOfRun transition IsServedSession
 
 -- The end of a session, by all its port calls: its cause is the event that ended it within its quota, and its moves are
 -- counted by side. The field that its fault is about is that of the bytes received until then.
@@ -76,9 +91,9 @@ IsEndOf limits turns history session end =
 abbrev pub RetiresClosed : {P : Type 0} → (P → PortCall → P → Type 0) → Settings → List (SystemCall P) →
     SystemCall P → Type 0
 RetiresClosed {P} transition settings trace (Retires place ports end) =
-    (now : SessionView × QuotaPortsView P) × (now.1.ports ≡ ports) × (is_closed now.0 ≡ true)
+    (now : SlotView P) × (now.ports ≡ ports) × (is_closed now.session ≡ true)
     × ((served : IsServed transition settings trace now) × (served.place ≡ place)
-    × IsEndOf (run_limits settings) settings.turns served.history now.0 end)
+    × IsEndOf (run_limits settings) settings.turns served.history now.session end)
 RetiresClosed transition settings trace (Polls may_block woken orders) = Unit {0}
 RetiresClosed transition settings trace (Shows ports status) = Unit {0}
 RetiresClosed transition settings trace (Accepts place came) = Unit {0}
@@ -107,7 +122,7 @@ unreached _ = 0
 
 abbrev pub sum_over_calls : {P : Type 0} → (SystemCall P → ℕ) → List (SystemCall P) → ℕ
 sum_over_calls count [] = 0
-sum_over_calls count (answer ∷ trace) = count answer + sum_over_calls count trace
+sum_over_calls count (call ∷ trace) = count call + sum_over_calls count trace
 
 -- ---- the operator's orders
 
@@ -135,8 +150,8 @@ show_orders trace = sum_over_calls (orders_with (λ orders. orders.shows_session
 -- after each order to stop accepting, accept is not called any more
 abbrev pub HeedsStops : {P : Type 0} → List (SystemCall P) → Type 0
 HeedsStops [] = Unit {0}
-HeedsStops (answer ∷ trace) =
-    (0 < orders_with (λ orders. orders.stops_accepting) answer → sum_over_calls accept_calls trace ≡ 0) × HeedsStops trace
+HeedsStops (call ∷ trace) =
+    (0 < orders_with (λ orders. orders.stops_accepting) call → sum_over_calls accept_calls trace ≡ 0) × HeedsStops trace
 
 -- After any rounds of a run. After an order to stop accepting, accept is not called any more, and the run is done as soon
 -- as each place is free. Without such an order, the run is done when all bots of its settings
@@ -182,27 +197,3 @@ pub record IsWholeRun {P : Type 0} (transition : P → PortCall → P → Type 0
   pub at_most : sum_over_calls comes trace ≤ bots_in_all settings
   pub stops : HeedsStops trace
   pub all_served : sum_over_calls comes trace ≡ sum_over_calls retires trace + sum_over_calls unreached trace
-
--- Whether a turn made progress, which decides if its session may rest, follows from the port calls of the turn.
-abbrev pub MovesAreAnswered : {P : Type 0} → (P → PortCall → P → Type 0) → Type 0
-MovesAreAnswered {P} transition = (old mid new : SessionView × QuotaPortsView P) → IsBegun (Meters transition) old mid →
-    (turn : IsTurned (Meters transition) mid new) → new.1.made_progress ≡ progress_by turn.exchange.call false
-
--- how many turns began in a history
-abbrev pub turns_in : List PortCall → ℕ
-turns_in [] = 0
-turns_in (TurnBegins ∷ trace) = suc (turns_in trace)
-turns_in (Clock event ∷ trace) = turns_in trace
-turns_in (Pulled side buffer pull bytes ∷ trace) = turns_in trace
-turns_in (Offered side bytes put ∷ trace) = turns_in trace
-
--- Ports with a quota of turns are spent exactly if more turns began than the quota has.
-abbrev pub TurnsAreCounted : {P : Type 0} → (P → PortCall → P → Type 0) → Type 0
-TurnsAreCounted {P} transition = (ports : P) (turns : ℕ) (history : List PortCall) (now : QuotaPortsView P) →
-    EvolvesBy (Meters transition) (fresh ports turns) history now → is_none now.turns_left ≡ nat_lt turns (turns_in history)
-
--- Ports with a quota of turns count the bytes of all their calls, from the first on: those that pulls delivered from each
--- side, and those that puts took for each, modulo 2^64.
-abbrev pub BytesAreCounted : {P : Type 0} → (P → PortCall → P → Type 0) → Type 0
-BytesAreCounted {P} transition = (ports : P) (turns : ℕ) (history : List PortCall) (now : QuotaPortsView P) →
-    EvolvesBy (Meters transition) (fresh ports turns) history now → now.bytes ≡ bytes_of history

@@ -1,22 +1,22 @@
 -- The loop of a run: the system calls and the effect of each step of a round, a round, and a whole run, completed or
 -- broken off. Each step is stated with its trace of system calls.
 use Rattle.std.specs.Prelude.{◌≡◌, ℕ, zero, suc, ◌+◌, ◌<◌, ◌≤◌, nat_le, Bool, true, false, ◌&&◌, ◌==◌, ◌⊎◌}
-use Rattle.std.specs.Prelude.{List, [], ◌∷◌, ◌++◌, length, count_by, Option, Some, None, is_none, slice_get}
+use Rattle.std.specs.Prelude.{List, [], ◌∷◌, ◌++◌, length, count_by, Option, Some, None, slice_get}
 use Rattle.std.specs.Prelude.{if◌then◌else◌}
 use Rattle.std.specs.List.{list_all}
 use Rattle.daide_protocol.specs.declared.ending.Ending.{Ending}
-use Rattle.daide_protocol.specs.declared.ending.Ending.TheVariants.{Ended, Lost}
 use Rattle.daide_protocol.specs.declared.account.Account.{Account}
-use Rattle.daide_frame.specs.Side.{same_side}
-use Rattle.daide_protocol.specs.Wires.{SessionView, is_closed}
+use Rattle.daide_protocol.specs.Wires.{is_closed}
 use Rattle.daide_words.specs.Words.{words_of}
 use Rattle.daide_protocol.specs.Config.{limits_with}
 use Rattle.daide_io.specs.Ports.{PortCall}
 use Rattle.daide_io.specs.ReadyQueue.{ReadyView, queued_places, woken, woken_all, put_back, TakesNext}
-use Rattle.daide_driver.specs.Hub.{IsBegun, IsTurned}
+use Rattle.daide_driver.specs.declared.meter.Meter.{Meter}
+use Rattle.daide_driver.specs.Meter.{has_spent_turns}
 use Rattle.daide_driver.specs.declared.place.SlabPlace.{SlabPlace}
 use Rattle.daide_driver.specs.declared.place.SlabPlace.TheVariants.{Free, Kept, Held}
-use Rattle.daide_driver.specs.Slab.{SlabView, all_free, is_free_place, is_kept, is_held, IsAt, IsNoneFree, with_place, OpensAt, ChangesAt}
+use Rattle.daide_driver.specs.Slab.{SlabView, SlotView, IsSlotBegun, IsSlotTurned, all_free, is_free_place, is_kept, is_held}
+use Rattle.daide_driver.specs.Slab.{IsAt, IsNoneFree, with_place, OpensAt, ChangesAt}
 use Rattle.daide_settings.specs.declared.settings.Settings.{Settings}
 use Rattle.daide_event_loop.specs.declared.serving.ServeFault.{ServeFault}
 use Rattle.daide_event_loop.specs.declared.serving.ServeFault.TheVariants as Faults
@@ -30,15 +30,13 @@ use Rattle.daide_io.specs.declared.system.Orders.{Orders}
 use Rattle.daide_io.specs.declared.system.SessionEnd.{SessionEnd}
 use Rattle.daide_io.specs.declared.fault_field.FaultField.{FaultField}
 use Rattle.daide_io.specs.FaultField.{fault_field_of}
-use Rattle.daide_event_loop.specs.QuotaPorts.{QuotaPortsView, Meters, beginning, RestsBy}
-use Rattle.daide_io.specs.System.{SystemCall, Polls, Shows, Accepts, Connects, Retires, Notifies, status_of}
-use Rattle.daide_io.specs.ByteCounts.{no_bytes}
+use Rattle.daide_io.specs.System.{SystemCall, Polls, Shows, Accepts, Connects, BeginsTurn, Rests, Retires, Notifies, status_of}
 use Rattle.daide_settings.specs.BotsInAll.{bots_in_all}
 use Rattle.daide_protocol.specs.Machine.{ending_in}
 
 -- the state of a run: its places with their sessions, the counters, and the places that are to be visited
 pub record ServiceView (P : Type 0) : Type 0 where
-  pub slab : SlabView (QuotaPortsView P)
+  pub slab : SlabView P
   pub counters : AdmissionCounters
   pub ready : ReadyView
 
@@ -96,13 +94,13 @@ polled woken orders run = record run {
 }
 
 -- the status of each session is shown, in order of place
-abbrev pub shows : {P : Type 0} → List (SlabPlace (SessionView × QuotaPortsView P)) → List (SystemCall P)
+abbrev pub shows : {P : Type 0} → List (SlabPlace (SlotView P)) → List (SystemCall P)
 shows [] = []
 shows (Free ∷ places) = shows places
 shows (Kept ∷ places) = shows places
-shows (Held item ∷ places) = Shows item.1.ports (status_of item.0 item.1.bytes) ∷ shows places
+shows (Held item ∷ places) = Shows item.ports (status_of item.session item.meter.moved.bytes) ∷ shows places
 
-abbrev pub shows_where : {P : Type 0} → Bool → List (SlabPlace (SessionView × QuotaPortsView P)) → List (SystemCall P)
+abbrev pub shows_where : {P : Type 0} → Bool → List (SlabPlace (SlotView P)) → List (SystemCall P)
 shows_where true places = shows places
 shows_where false places = []
 
@@ -112,41 +110,32 @@ opening woken orders run = Polls (is_queue_empty run) woken orders ∷ shows_whe
 
 -- ---- the turns of a session
 
--- ports with a full quota of turns, which delivered and took nothing; new ports count as progress
-abbrev pub fresh : {P : Type 0} → P → ℕ → QuotaPortsView P
-fresh ports turns = record {
-  ports = ports;
-  turns_left = Some turns;
-  made_progress = true;
-  first_synthetic_end = None;
-  bytes = no_bytes;
-}
-
--- a turn of a session begins with its own ports, and the system begins it with these while turns are left
+-- the system begins a turn of a session with its own ports
 abbrev pub OpensTurn : {P : Type 0} → (P → PortCall → P → Type 0) → ℕ → List (SystemCall P) →
-    SessionView × QuotaPortsView P → SessionView × QuotaPortsView P → Type 0
-OpensTurn transition place trace old new = IsBegun (Meters transition) old new × (trace ≡ beginning place old.1 new.1)
+    SlotView P → SlotView P → Type 0
+OpensTurn transition place trace old new =
+    IsSlotBegun transition old new × (trace ≡ BeginsTurn place old.ports new.ports ∷ [])
 
 -- the session at this place has one turn: it begins and runs
-pub record TakesTurn {P : Type 0} (transition : P → PortCall → P → Type 0) (old : SlabView (QuotaPortsView P)) (place : ℕ)
-    (trace : List (SystemCall P)) (new : SlabView (QuotaPortsView P)) : Type 0 where
-  pub begun : SlabView (QuotaPortsView P)
+pub record TakesTurn {P : Type 0} (transition : P → PortCall → P → Type 0) (old : SlabView P) (place : ℕ)
+    (trace : List (SystemCall P)) (new : SlabView P) : Type 0 where
+  pub begun : SlabView P
   pub begins : ChangesAt (OpensTurn transition place trace) old place begun
-  pub runs : ChangesAt (IsTurned (Meters transition)) begun place new
+  pub runs : ChangesAt (IsSlotTurned transition) begun place new
 
 -- whether the last turn of the session at a place made progress; not if there is none at this place
-abbrev pub has_moved_in : {P : Type 0} → Option (SlabPlace (SessionView × QuotaPortsView P)) → Bool
+abbrev pub has_moved_in : {P : Type 0} → Option (SlabPlace (SlotView P)) → Bool
 has_moved_in None = false
 has_moved_in (Some Free) = false
 has_moved_in (Some Kept) = false
-has_moved_in (Some (Held item)) = item.1.made_progress
+has_moved_in (Some (Held item)) = item.meter.moved.made_progress
 
 -- n turns of the session at this place, each but the first after one that made progress
-abbrev pub TurnsInRow : {P : Type 0} → (P → PortCall → P → Type 0) → ℕ → SlabView (QuotaPortsView P) → ℕ →
-    List (SystemCall P) → SlabView (QuotaPortsView P) → Type 0
+abbrev pub TurnsInRow : {P : Type 0} → (P → PortCall → P → Type 0) → ℕ → SlabView P → ℕ →
+    List (SystemCall P) → SlabView P → Type 0
 TurnsInRow transition zero old place trace new = (trace ≡ []) × (new ≡ old)
 TurnsInRow {P} transition (suc n) old place trace new =
-    (mid : SlabView (QuotaPortsView P)) × (first : List (SystemCall P)) × (second : List (SystemCall P))
+    (mid : SlabView P) × (first : List (SystemCall P)) × (second : List (SystemCall P))
     × (trace ≡ first ++ second) × TurnsInRow transition n old place first mid
     × (0 < n → has_moved_in (slice_get mid.places place) ≡ true) × TakesTurn transition mid place second new
 
@@ -155,8 +144,8 @@ abbrev pub quantum : ℕ
 quantum = 8
 
 -- A session has one turn at least and a quantum at most, one after another while they make progress.
-pub record TakesTurns {P : Type 0} (transition : P → PortCall → P → Type 0) (old : SlabView (QuotaPortsView P)) (place turns : ℕ)
-    (trace : List (SystemCall P)) (new : SlabView (QuotaPortsView P)) : Type 0 where
+pub record TakesTurns {P : Type 0} (transition : P → PortCall → P → Type 0) (old : SlabView P) (place turns : ℕ)
+    (trace : List (SystemCall P)) (new : SlabView P) : Type 0 where
   pub made : TurnsInRow transition turns old place trace new
   pub some : 0 < turns
   pub few : turns ≤ quantum
@@ -168,52 +157,57 @@ abbrev pub spent_notice : {P : Type 0} → Bool → List (SystemCall P)
 spent_notice true = Notifies TurnsSpent ∷ []
 spent_notice false = []
 
--- whether an event is the first one reported beyond the quota
-abbrev pub is_reported : Option Ending → Ending → Bool
-is_reported None ending = false
-is_reported (Some (Ended one)) (Ended side) = same_side one side
-is_reported (Some (Lost one)) (Lost side) = same_side one side
-is_reported (Some synthetic) ending = false
+-- the event that ended a session while it had turns left; none if its turns were spent, for then its clock stopped it
+abbrev pub ending_within : Meter → Option Ending → Option Ending
+ending_within meter ending = if has_spent_turns meter then None else ending
 
--- The cause of an ending: the event that ended the session within its quota or, if there was none, the spent turns.
--- Beyond the quota an open session ends by the first end or failure reported. A session that was over is not read any
--- more, and has an empty queue for a lost wire, so its own ending is not reported again.
-abbrev pub cause_by : Option Ending → Option Ending → Cause
-cause_by synthetic None = Causes.TurnsSpent
-cause_by synthetic (Some ending) = if is_reported synthetic ending then Causes.TurnsSpent else Causes.Session ending
+-- the event that ended a session, if there was one; otherwise its turns were spent while it was open
+abbrev pub cause_of : Option Ending → Cause
+cause_of (Some ending) = Causes.Session ending
+cause_of None = Causes.TurnsSpent
 
-abbrev pub end_by : Option Ending → Option Ending → Account → Option FaultField → SessionEnd
-end_by synthetic ending account field = record { cause = cause_by synthetic ending; account = account; fault_field = field }
+abbrev pub end_by : Meter → Option Ending → Account → Option FaultField → SessionEnd
+end_by meter ending account field = record {
+  cause = cause_of (ending_within meter ending);
+  account = account;
+  fault_field = field;
+}
 
 -- the end of a session, with its account and the field that its fault is about
-abbrev pub end_of : {P : Type 0} → SessionView × QuotaPortsView P → SessionEnd
-end_of now = end_by now.1.first_synthetic_end (ending_in now.0.state.phase) now.0.account (fault_field_of now.0.state)
+abbrev pub end_of : {P : Type 0} → SlotView P → SessionEnd
+end_of now = end_by now.meter (ending_in now.session.state.phase) now.session.account (fault_field_of now.session.state)
 
 -- spent turns are reported, if so, and then the ports are retired with the end of their session
-abbrev pub retirement : {P : Type 0} → ℕ → QuotaPortsView P → SessionEnd → List (SystemCall P)
-retirement place meter end = spent_notice (is_none meter.turns_left) ++ Retires place meter.ports end ∷ []
+abbrev pub retirement : {P : Type 0} → ℕ → P → Meter → SessionEnd → List (SystemCall P)
+retirement place ports meter end = spent_notice (has_spent_turns meter) ++ Retires place ports end ∷ []
 
 -- ---- a visit
 
+-- whether a session rests: not after a turn that made progress, without a call; else the system says so
+abbrev pub RestsBy : {P : Type 0} → Bool → ℕ → P → List (SystemCall P) → Bool → Type 0
+RestsBy true place ports trace rests = (trace ≡ []) × (rests ≡ false)
+RestsBy false place ports trace rests = trace ≡ Rests place ports rests ∷ []
+
 -- After its turns a closed session is retired, and its place is free. An open one rests if its last turn made no progress
 -- and the system has it rest; otherwise its place joins the end of the queue.
-abbrev pub LeavesVisit : {P : Type 0} → Bool → SessionView × QuotaPortsView P → ServiceView P → ℕ → List (SystemCall P) →
+abbrev pub LeavesVisit : {P : Type 0} → Bool → SlotView P → ServiceView P → ℕ → List (SystemCall P) →
     ServiceView P → Type 0
-LeavesVisit true now old place trace new = (trace ≡ retirement place now.1 (end_of now)) × (new ≡ with_free_place old place)
+LeavesVisit true now old place trace new =
+    (trace ≡ retirement place now.ports now.meter (end_of now)) × (new ≡ with_free_place old place)
 LeavesVisit false now old place trace new =
-    (rests : Bool) × RestsBy now.1.made_progress place now.1.ports trace rests
+    (rests : Bool) × RestsBy now.meter.moved.made_progress place now.ports trace rests
     × (new ≡ (if rests then old else queued_again old place))
 
 -- the session at this place has this many turns, and leaves the visit as they left it
 pub record TurnsAndLeaves {P : Type 0} (transition : P → PortCall → P → Type 0) (old : ServiceView P) (place turns : ℕ)
     (trace : List (SystemCall P)) (new : ServiceView P) : Type 0 where
-  pub now : SessionView × QuotaPortsView P
-  pub turned : SlabView (QuotaPortsView P)
+  pub now : SlotView P
+  pub turned : SlabView P
   pub turning : List (SystemCall P)
   pub leaving : List (SystemCall P)
   pub takes : TakesTurns transition old.slab place turns turning turned
   pub there : IsAt turned place (Held now)
-  pub leaves : LeavesVisit (is_closed now.0) now (record old { slab = turned }) place leaving new
+  pub leaves : LeavesVisit (is_closed now.session) now (record old { slab = turned }) place leaving new
   pub asked : trace ≡ turning ++ leaving
 
 -- a completed connect turns into a session in its opening state, which has turns; a failed one is reported, and its place
@@ -221,14 +215,14 @@ pub record TurnsAndLeaves {P : Type 0} (transition : P → PortCall → P → Ty
 abbrev pub JoinsBy : {P : Type 0} → (P → PortCall → P → Type 0) → Connect P → ServiceView P → ℕ → ℕ → List (SystemCall P) →
     ServiceView P → Type 0
 JoinsBy {P} transition (Ready ports) old place turns joining new =
-    (opened : SlabView (QuotaPortsView P)) × OpensAt old.slab place (fresh ports old.counters.turns) opened
+    (opened : SlabView P) × OpensAt old.slab place ports old.counters.turns opened
     × TurnsAndLeaves transition (record old { slab = opened }) place turns joining new
 JoinsBy transition Failed old place turns joining new =
     (turns ≡ 1) × (joining ≡ Notifies CannotReach ∷ []) × (new ≡ with_free_place old place)
 JoinsBy transition Pending old place turns joining new = (turns ≡ 1) × (joining ≡ []) × (new ≡ old)
 
 -- A visit of a place, by what is there. A visit without a turn counts as one, so that a round ends.
-abbrev pub VisitsBy : {P : Type 0} → (P → PortCall → P → Type 0) → Option (SlabPlace (SessionView × QuotaPortsView P)) → ServiceView P → ℕ →
+abbrev pub VisitsBy : {P : Type 0} → (P → PortCall → P → Type 0) → Option (SlabPlace (SlotView P)) → ServiceView P → ℕ →
     ℕ → List (SystemCall P) → ServiceView P → Type 0
 VisitsBy transition None old place turns trace new = (turns ≡ 1) × (trace ≡ []) × (new ≡ old)
 VisitsBy transition (Some Free) old place turns trace new = (turns ≡ 1) × (trace ≡ []) × (new ≡ old)

@@ -14,10 +14,9 @@ use Rattle.daide_io.specs.declared.system.Connect.TheVariants.{Pending}
 use Rattle.daide_io.specs.System.{SystemCall, Accepts, Connects, Rests, last_about}
 use Rattle.daide_driver.specs.declared.place.SlabPlace.{SlabPlace}
 use Rattle.daide_driver.specs.declared.place.SlabPlace.TheVariants.{Free, Kept, Held}
-use Rattle.daide_driver.specs.Slab.{IsAt}
+use Rattle.daide_driver.specs.Slab.{SlotView, IsAt}
 use Rattle.daide_driver.specs.Turn.{Turn, most_pulled}
 use Rattle.daide_settings.specs.declared.settings.Settings.{Settings}
-use Rattle.daide_event_loop.specs.QuotaPorts.{QuotaPortsView}
 use Rattle.daide_event_loop.specs.Serving.{ServiceView, Rounds, initial_service, is_queue_empty, have_all_come}
 
 -- ---- a turn without progress
@@ -51,30 +50,30 @@ OffersIfQueued side session calls = no_frame (queued session side) ≡ false →
 -- value. The clock reported nothing. Each side for whose bytes the session has room was pulled, and returned none. To
 -- each side for which bytes are queued the front was offered, and none were taken.
 pub record IsIdleSession {P : Type 0} (transition : P → PortCall → P → Type 0)
-    (place : SessionView × QuotaPortsView P) : Type 0 where
+    (place : SlotView P) : Type 0 where
   pub session : SessionView
   pub ports : P
   pub begun : P
   pub turn : List PortCall
-  pub runs : Turn session turn place.0
+  pub runs : Turn session turn place.session
   pub begins : transition ports TurnBegins begun
-  pub evolves : EvolvesBy transition begun turn place.1.ports
+  pub evolves : EvolvesBy transition begun turn place.ports
   pub made : All IsOfTurn turn
   pub still : All MakesNoProgress turn
   pub clock : Contains turn (Clock NoEvent)
-  pub pulled : (side : Side) → PullsIfRoom side place.0 turn
-  pub offered : (side : Side) → OffersIfQueued side place.0 turn
+  pub pulled : (side : Side) → PullsIfRoom side place.session turn
+  pub offered : (side : Side) → OffersIfQueued side place.session turn
 
 -- ---- rest
 
 -- What is at a place rests after these calls of a run. Of a session, the last turn made no progress. Of a connect, the
 -- system had no result. The last call about the place said so: no poll has woken it since, and no call was made for it.
 abbrev pub IsAtRest : {P : Type 0} → (P → PortCall → P → Type 0) → List (SystemCall P) → ℕ →
-    SlabPlace (SessionView × QuotaPortsView P) → Type 0
+    SlabPlace (SlotView P) → Type 0
 IsAtRest transition calls place Free = Unit {0}
 IsAtRest transition calls place Kept = last_about place None calls ≡ Some (Connects place Pending)
 IsAtRest transition calls place (Held item) = IsIdleSession transition item
-    × (last_about place None calls ≡ Some (Rests place item.1.ports true))
+    × (last_about place None calls ≡ Some (Rests place item.ports true))
 
 -- The invariant of a run: after these calls, each place that is used and not in the queue is at rest.
 abbrev pub RestsUnlessQueued : {P : Type 0} → (P → PortCall → P → Type 0) → List (SystemCall P) → ServiceView P → Type 0

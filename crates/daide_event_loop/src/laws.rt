@@ -1,6 +1,6 @@
 //! Laws of runs: functions with no parameters and an empty body, whose contracts are the laws.
 
-ghost use Rattle.daide_event_loop.specs.Served.{SessionsAreServed, OrdersAreHeeded, MovesAreAnswered, TurnsAreCounted, BytesAreCounted};
+ghost use Rattle.daide_event_loop.specs.Served.{SessionsAreServed, OrdersAreHeeded};
 ghost use Rattle.daide_event_loop.specs.Independence.{SessionsAreIndependent};
 ghost use Rattle.daide_event_loop.specs.Fairness.{RoundsAreShort, ReadyPlacesAdvance};
 ghost use Rattle.daide_event_loop.specs.Waiting.{RestingSessionsAreIdle, NoBotIsLeftOut};
@@ -13,7 +13,12 @@ use daide_io::ports::Ports;
 /// many ports were received as are held and were handed back. Each bot that came has a session, or its connect is pending
 /// or failed.
 ///
-/// A session whose quota is spent goes by what `QuotaPorts` returns then.
+/// Its meter has the bytes that its ports delivered from each side and took for each, modulo 2^64: those of all calls since
+/// a connect returned the ports (`bytes`). A status shows these counts (`shows`). Its turns are spent if and only if it was
+/// open after all turns of the settings, and one more began (`spent`). That turn stopped it, as an operator does
+/// (`stopped`). So a session of which more turns began is over, and ends by the protocol (`ends`).
+///
+/// Not said: that a peer received the bytes that were taken.
 pub fn sessions_are_served<P: Ports>()
     ensures { SessionsAreServed P.transition }
 {}
@@ -24,25 +29,6 @@ pub fn sessions_are_served<P: Ports>()
 /// with which status, a round says (`shows`). No order is in the premises of `sessions_are_independent`.
 pub fn orders_are_heeded<P: Ports>()
     ensures { OrdersAreHeeded P.transition }
-{}
-
-/// What a turn's calls returned decides whether anything moved in it, and so whether its session may rest.
-pub fn moves_are_answered<P: Ports>()
-    ensures { MovesAreAnswered P.transition }
-{}
-
-/// A session's quota is spent if and only if more turns began with its ports than the settings allow. Until then its
-/// ports are called and answer for themselves.
-pub fn turns_are_counted<P: Ports>()
-    ensures { TurnsAreCounted P.transition }
-{}
-
-/// A session's ports count the bytes that they delivered from each side and took for each, modulo 2^64: those of all
-/// calls since a connect returned them (`bytes_of`). A status shows these counts (`shows`).
-///
-/// Not said: that a peer received the bytes that were taken.
-pub fn bytes_are_counted<P: Ports>()
-    ensures { BytesAreCounted P.transition }
 {}
 
 /// Sessions do not influence one another. Take a session of each of two runs, of any two systems with any two kinds of

@@ -7,14 +7,14 @@
 
 ghost use Rattle.std.specs.Prelude.{◌≡◌, true, false, List, OnOk, OnErr, IfOk, IfErr, Some};
 ghost use Rattle.daide_io.specs.System.{SystemCall, TransitsBy};
-ghost use Rattle.daide_driver.specs.Slab.{is_at, is_held};
-ghost use Rattle.daide_event_loop.specs.Serving.{shows_where, is_reported, cause_by, end_by, retirement, TakesTurn, TakesTurns};
+ghost use Rattle.daide_driver.specs.Slab.{is_at, is_held, IfHeldAt};
+ghost use Rattle.daide_event_loop.specs.Serving.{shows_where, end_by, retirement, TakesTurn, TakesTurns, RestsBy};
 ghost use Rattle.daide_event_loop.specs.Serving.{TurnsAndLeaves, VisitsPlace, VisitsReady, Admits, Round, is_done, initial_service};
 ghost use Rattle.daide_event_loop.specs.Serving.{IsRefusedAt, VisitsUntilRefused, BreaksOff, GivesUp, IsServeCause};
 ghost use Rattle.daide_event_loop.specs.Served.{IsWholeRun};
 
 use crate::admission_counters::AdmissionCounters;
-use crate::quota_ports::QuotaPorts;
+use daide_driver::meter::Meter;
 use daide_driver::slab::Slab;
 use daide_driver::slot::Removed;
 use daide_driver::status::session_status;
@@ -22,7 +22,6 @@ use daide_frame::memory::Memory;
 use daide_io::ports::Ports;
 use daide_io::ready_queue::ReadyQueue;
 use daide_io::system::{Cause, Connect, Notice, Orders, SessionEnd, System};
-use daide_protocol::ending::Ending;
 use daide_settings::settings::Settings;
 use std::alloc::{AllocError, Allocator, Global};
 use std::marker::Model;
@@ -55,7 +54,7 @@ pub enum ServeFault {
 /// (`System::rest`), and no poll has named it since; or its connect is pending.
 #[derive(Drop)]
 pub struct Service<P: Ports, A: Allocator = Global> {
-    slab: Slab<QuotaPorts<P>, A>,
+    slab: Slab<P, A>,
     counters: AdmissionCounters,
     ready: ReadyQueue<A>,
 }
@@ -75,7 +74,7 @@ impl<P: Ports, A: Allocator> Model for Service<P, A> {
 /// Shows the operator the status of each session, in order of place, if the orders require it.
 fn show_sessions<P: Ports, A: Allocator + Copy, S: System<P>>(
     orders: Orders,
-    slab: &Slab<QuotaPorts<P>, A>,
+    slab: &Slab<P, A>,
     system: &mut S,
 )
     ensures { TransitsBy S.transition system.old (shows_where orders.shows_sessions slab.now.places) system.new }
@@ -85,44 +84,23 @@ fn show_sessions<P: Ports, A: Allocator + Copy, S: System<P>>(
     }
     for place in 0..slab.len() {
         if slab.has(place) {
-            let ports = slab.ports(place);
-            let status = session_status(slab.session(place), ports.bytes());
-            system.show(ports.ports(), status);
+            let bytes = slab.meter(place).moved.bytes;
+            let status = session_status(slab.session(place), bytes);
+            system.show(slab.ports(place), status);
         }
     }
 }
 
-/// Returns true if an event is the first one reported beyond the quota.
-fn is_reported(synthetic: Option<Ending>, ending: Ending) -> bool
-    ensures { result ≡ is_reported synthetic ending }
-{
-    match (synthetic, ending) {
-        (Some(Ending::Ended(one)), Ending::Ended(side)) => one == side,
-        (Some(Ending::Lost(one)), Ending::Lost(side)) => one == side,
-        _ => false,
-    }
-}
-
-/// Returns the cause of an ending: spent turns if it is the first one reported beyond the quota, otherwise the event.
-fn cause_of(synthetic: Option<Ending>, ending: Ending) -> Cause
-    ensures { result ≡ cause_by synthetic (Some ending) }
-{
-    if is_reported(synthetic, ending) {
-        Cause::TurnsSpent
-    } else {
-        Cause::Session(ending)
-    }
-}
-
-/// Retires the ports of the session that was at a place, with its end. Before that, reports spent turns if the quota is
-/// exceeded.
+/// Retires the ports of the session that was at a place, with its end. Its cause is the event that ended it, unless that was
+/// the stop of a session whose turns were spent: this is reported before.
 fn retire_session<P: Ports, S: System<P>>(
     place: usize,
-    removed: Removed<QuotaPorts<P>>,
+    meter: Meter,
+    removed: Removed<P>,
     system: &mut S,
 )
-    ensures { TransitsBy S.transition system.old (retirement place removed.ports
-        (end_by removed.ports.first_synthetic_end (Some removed.ending) removed.account removed.fault_field)) system.new }
+    ensures { TransitsBy S.transition system.old (retirement place removed.ports meter
+        (end_by meter (Some removed.ending) removed.account removed.fault_field)) system.new }
 {
     let Removed {
         ports,
@@ -130,21 +108,24 @@ fn retire_session<P: Ports, S: System<P>>(
         ending,
         fault_field,
     } = removed;
-    if ports.is_spent() {
+    let cause = if meter.is_spent() {
         system.log(Notice::TurnsSpent);
-    }
+        Cause::TurnsSpent
+    } else {
+        Cause::Session(ending)
+    };
     let end = SessionEnd {
-        cause: cause_of(ports.first_synthetic_end(), ending),
+        cause,
         account,
         fault_field,
     };
-    system.retire(place, ports.into_ports(), end);
+    system.retire(place, ports, end);
 }
 
-/// Makes one turn of the session at a place: the system begins it with the ports of that session.
+/// Makes one turn of the session at a place: the system begins it with the ports of that session, and then it runs.
 #[inline(always)]
 fn take_turn<P: Ports, A: Allocator + Copy, S: System<P>>(
-    slab: &mut Slab<QuotaPorts<P>, A>,
+    slab: &mut Slab<P, A>,
     place: usize,
     system: &mut S,
 )
@@ -152,7 +133,7 @@ fn take_turn<P: Ports, A: Allocator + Copy, S: System<P>>(
     ensures { (trace : List (SystemCall P)) × TransitsBy S.transition system.old trace system.new
         × TakesTurn P.transition slab.old place trace slab.new }
 {
-    slab.ports_mut(place).begin_turn(place, system);
+    system.begin_turn(place, slab.ports_mut(place));
     slab.turn(place);
 }
 
@@ -160,7 +141,7 @@ fn take_turn<P: Ports, A: Allocator + Copy, S: System<P>>(
 /// how many.
 #[inline(always)]
 fn take_turns<P: Ports, A: Allocator + Copy, S: System<P>>(
-    slab: &mut Slab<QuotaPorts<P>, A>,
+    slab: &mut Slab<P, A>,
     place: usize,
     system: &mut S,
 ) -> usize
@@ -170,11 +151,29 @@ fn take_turns<P: Ports, A: Allocator + Copy, S: System<P>>(
 {
     for turns in 0..QUANTUM {
         take_turn(slab, place, system);
-        if !slab.ports(place).has_moved() {
+        if !slab.meter(place).moved.made_progress {
             return turns + 1;
         }
     }
     QUANTUM
+}
+
+/// Has the session at a place rest, unless its last turn made progress. Returns whether it rests.
+#[inline(always)]
+fn rests<P: Ports, A: Allocator + Copy, S: System<P>>(
+    slab: &Slab<P, A>,
+    place: usize,
+    system: &mut S,
+) -> bool
+    requires { is_at is_held slab.now.places place ≡ true }
+    ensures { IfHeldAt slab.now.places place (λ item. (trace : List (SystemCall P))
+        × TransitsBy S.transition system.old trace system.new
+        × RestsBy item.meter.moved.made_progress place item.ports trace result) }
+{
+    if slab.meter(place).moved.made_progress {
+        return false;
+    }
+    system.rest(place, slab.ports(place))
 }
 
 impl<P: Ports, A: Memory + Copy> Service<P, A> {
@@ -232,9 +231,10 @@ impl<P: Ports, A: Memory + Copy> Service<P, A> {
     {
         let turns = take_turns(&mut self.slab, place, system);
         if self.slab.session(place).is_closed() {
+            let meter = self.slab.meter(place);
             let removed = self.slab.remove(place);
-            retire_session(place, removed, system);
-        } else if !self.slab.ports(place).rests(place, system) {
+            retire_session(place, meter, removed, system);
+        } else if !rests(&self.slab, place, system) {
             self.ready.put_back(place);
         }
         turns
@@ -268,8 +268,7 @@ impl<P: Ports, A: Memory + Copy> Service<P, A> {
                 Ok(1)
             }
             Connect::Ready(ports) => {
-                let ports = QuotaPorts::new(ports, self.counters.turns);
-                match self.slab.open(place, ports) {
+                match self.slab.open(place, ports, self.counters.turns) {
                     Ok(()) => Ok(self.give_turns(place, system)),
                     Err(_ports) => Err(ServeFault::Memory),
                 }
@@ -360,8 +359,8 @@ impl<P: Ports, A: Memory + Copy> Service<P, A> {
 /// `served` (`each`): if it returns `Ok`, the calls are those of a whole run (`IsWholeRun`). Each session that it
 /// served is bounded and exact by all that its ports returned, as `sessions_are_served` says. With a session's ports
 /// the run hands the system the session's counts and why it ended (`IsEndOf`). The cause is the event that ended it, by
-/// what its ports returned while turns were left. It is `TurnsSpent` if and only if there is no such event, since the
-/// session was open until then.
+/// what its ports returned while turns were left. It is `TurnsSpent` if and only if there is no such event: the session was
+/// open until then, and its clock stopped it in the next turn, as an operator does.
 ///
 /// `served` (`none_lost`): no ports are lost. As many bots came as the settings say, or 2^32 - 1 if the run is endless
 /// (`all_came`). If there was an order to stop accepting, at most as many came, and accept was not called after it

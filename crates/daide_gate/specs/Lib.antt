@@ -3,6 +3,7 @@ pub use Rattle.daide_protocol.specs.Config
 pub use Rattle.daide_protocol.specs.Wires
 pub use Rattle.daide_io.specs.Ports
 pub use Rattle.daide_session.specs.Session
+pub use Rattle.daide_driver.specs.Meter
 pub use Rattle.daide_driver.specs.Record
 pub use Rattle.daide_driver.specs.Turn
 pub use Rattle.daide_driver.specs.Headline
@@ -19,5 +20,4 @@ pub use Rattle.daide_settings.specs.WordSettings
 pub use Rattle.daide_settings.specs.Settings
 pub use Rattle.daide_settings.specs.Given
 pub use Rattle.daide_io.specs.System
-pub use Rattle.daide_event_loop.specs.QuotaPorts
 pub use Rattle.daide_event_loop.specs.Serving

@@ -23,7 +23,7 @@ pub use daide_reader::{Reader, Verdict};
 
 // A session, and its driver.
 pub use daide_driver::{
-    AddFault, Hub, HubError, RelayEnd, Removed, hub, relay, relaying, turn, turn_io,
+    AddFault, Hub, HubError, Moved, RelayEnd, Removed, hub, relay, relaying, turn, turn_io,
 };
 pub use daide_io::ports::ClockEvent;
 pub use daide_io::{
@@ -37,7 +37,7 @@ pub use daide_protocol::{
 pub use daide_session::{Session, SessionError};
 
 // The event loop, and the commands on their inputs.
-pub use daide_event_loop::{ServeFault, Service, quota_ports, serve, serving};
+pub use daide_event_loop::{ServeFault, Service, serve, serving};
 pub use daide_log::{
     Comment, LineProblem, LineReason, LogFault, LogReader, Moment, Record, RecordEnd, Recording,
     Sink, check_log, check_stream, record,

@@ -1,6 +1,6 @@
 //! The two wires and the clock, as a turn calls them.
 
-ghost use Rattle.std.specs.Prelude.{length, take};
+ghost use Rattle.std.specs.Prelude.{◌≡◌, true, length, take};
 ghost use Rattle.daide_io.specs.Ports.{PortCall, Clock, Pulled, Offered, IsPullWithin, IsPutWithin};
 ghost use Rattle.daide_io.specs.Ports.{pulled_len};
 
@@ -33,7 +33,7 @@ pub enum ClockEvent {
     NoEvent,
     /// The time for the initial message is over.
     ImTimeIsOver,
-    /// The operator requested that the session end.
+    /// The session is to end: the operator requested it, or its turns are spent.
     StopIsRequested,
 }
 
@@ -57,8 +57,11 @@ pub trait Ports: Drop {
         ensures within { IsPutWithin result (length bytes.now) }
         ensures transition { transition self.old (Offered side bytes.now result) self.new };
 
-    /// Returns whether the IM timer has expired, or the operator stops the session. The call itself counts, reads and
-    /// writes nothing.
-    fn clock(&mut self) -> ClockEvent
-        ensures { transition self.old (Clock result) self.new };
+    /// Returns whether the IM timer has expired, or the session is to stop. The caller says whether it stops the session,
+    /// since its turns are spent; the operator may stop it too. The call itself counts, reads and writes nothing.
+    ///
+    /// `stops`: a session that the caller stops gets a stop.
+    fn clock(&mut self, is_spent: bool) -> ClockEvent
+        ensures stops { is_spent ≡ true → result ≡ ClockEvent.StopIsRequested }
+        ensures transition { transition self.old (Clock result) self.new };
 }

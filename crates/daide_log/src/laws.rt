@@ -54,9 +54,6 @@ pub fn no_read_behind_a_fault()
 /// Premise: limits that a session accepts, and accepted words with names of three letters.
 ///
 /// Not said: that a time in a comment is right. It is the one that the caller gave.
-///
-/// Not said: that the record of a session whose turns were spent has the session's counts. The quota is outside the
-/// ports that record, so its last results are in no record.
 pub fn records_are_reported()
     ensures { RecordsAreReported }
 {}

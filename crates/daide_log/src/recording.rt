@@ -245,8 +245,8 @@ impl<P: Ports, W: Sink + Drop> Ports for Recording<P, W> {
         put
     }
 
-    fn clock(&mut self) -> ClockEvent {
-        let event = self.ports.clock();
+    fn clock(&mut self, is_spent: bool) -> ClockEvent {
+        let event = self.ports.clock(is_spent);
         match event {
             ClockEvent::NoEvent => {
                 if self.activity == Activity::Ended {

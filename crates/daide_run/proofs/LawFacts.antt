@@ -11,13 +11,13 @@ use Rattle.daide_io.specs.declared.ports.Pull.TheVariants.{Got}
 use Rattle.daide_io.specs.declared.system.Connect.TheVariants.{Ready}
 use Rattle.daide_driver.specs.Headline.{IsBoundedAndExact}
 use Rattle.daide_settings.specs.declared.settings.Settings.{Settings}
-use Rattle.daide_event_loop.specs.QuotaPorts.{QuotaPortsView}
 use Rattle.daide_event_loop.specs.Served.{IsServed}
 use Rattle.daide_buffered_io.specs.Buffers.{Buffer}
 use Rattle.daide_io.specs.Streams.{StreamCall}
 use Rattle.daide_buffered_io.specs.Streams.{Transfers}
 use Rattle.daide_sockets.specs.Pairing.{Paired, RunSockets, Transits}
 use Rattle.daide_run.specs.Accepted.{BotsAreCounted}
+use Rattle.daide_driver.specs.Slab.{SlotView}
 use Rattle.daide_run.specs.Exchanged.{SessionsExchange, ServedSessionsExchange}
 
 -- two of three accepts returned a bot
@@ -40,7 +40,7 @@ heard_one to_give got law limits first now g moves exact none =
 -- a session that a run served began with ports that a connect delivered
 came_by_a_connect : {P S : Type 0} (transition : P → PortCall → P → Type 0) (streams : P → Buffer S × Buffer S)
     (to_give taken : S → Option (List ℕ)) → ServedSessionsExchange transition streams to_give taken →
-    (settings : Settings) (given : P) (now : SessionView × QuotaPortsView P) →
+    (settings : Settings) (given : P) (now : SlotView P) →
     IsServed transition settings (Connects 3 (Ready given) ∷ []) now →
     (place : ℕ) × (ports : P) × Contains (Connects 3 (Ready given) ∷ []) (Connects place (Ready ports))
 came_by_a_connect transition streams to_give taken law settings given now served =

@@ -9,8 +9,8 @@ use Rattle.daide_io.specs.System.{SystemCall, Connects}
 use Rattle.daide_protocol.specs.Wires.{SessionView, sent_to, sent_bytes, is_closed}
 use Rattle.daide_io.specs.declared.system.Connect.TheVariants.{Ready}
 use Rattle.daide_driver.specs.Headline.{IsBoundedAndExact}
+use Rattle.daide_driver.specs.Slab.{SlotView}
 use Rattle.daide_settings.specs.declared.settings.Settings.{Settings}
-use Rattle.daide_event_loop.specs.QuotaPorts.{QuotaPortsView}
 use Rattle.daide_event_loop.specs.Served.{IsServed, run_limits}
 use Rattle.daide_buffered_io.specs.Buffers.{Buffer, Passes}
 use Rattle.daide_buffered_io.specs.Streams.{stream_of, Transfers}
@@ -58,6 +58,6 @@ SessionsExchange {S} to_give got =
 abbrev pub ServedSessionsExchange : {P S : Type 0} → (P → PortCall → P → Type 0) → (P → Buffer S × Buffer S) →
     (S → Option (List ℕ)) → (S → Option (List ℕ)) → Type 0
 ServedSessionsExchange {P} {S} transition streams to_give taken = (settings : Settings) (trace : List (SystemCall P))
-    (now : SessionView × QuotaPortsView P) → IsServed transition settings trace now →
+    (now : SlotView P) → IsServed transition settings trace now →
     (place : ℕ) × (ports : P) × Contains trace (Connects place (Ready ports)) × ((history : List PortCall) ×
-    Exchanges to_give taken (run_limits settings) history (streams ports) now.0 (streams now.1.ports))
+    Exchanges to_give taken (run_limits settings) history (streams ports) now.session (streams now.ports))

@@ -6,7 +6,7 @@ use Rattle.std.specs.declared.time.Duration.{Duration}
 use Rattle.std.specs.declared.time.Instant.{Instant}
 use Rattle.std.proofs.lemmas.Option.{slice_get_within}
 use Rattle.daide_frame.specs.declared.side.Side.{Side}
-use Rattle.daide_protocol.specs.Wires.{SessionView, room_of, front_of, queued, no_frame}
+use Rattle.daide_protocol.specs.Wires.{room_of, front_of, queued, no_frame}
 use Rattle.daide_settings.specs.declared.settings.Settings.{Settings}
 use Rattle.daide_io.specs.Deadline.{IsNotBefore}
 use Rattle.daide_io.specs.Network.{NetworkCall}
@@ -17,7 +17,6 @@ use Rattle.daide_io.specs.System.{SystemCall, Polls, Rests, TransitsBy, last_abo
 use Rattle.daide_io.specs.declared.system.Orders.{Orders}
 use Rattle.daide_driver.specs.declared.place.SlabPlace.{SlabPlace}
 use Rattle.daide_driver.specs.declared.place.SlabPlace.TheVariants.{Held}
-use Rattle.daide_event_loop.specs.QuotaPorts.{QuotaPortsView}
 use Rattle.daide_event_loop.specs.Serving.{ServiceView, Round, Rounds, initial_service, is_queue_empty, shows_where}
 use Rattle.daide_event_loop.specs.Waiting.{IsIdleSession, IsAtRest}
 use Rattle.daide_event_loop.proofs.AcceptLemmas.{none_queued, rounds_length}
@@ -31,6 +30,7 @@ use Rattle.daide_sockets.specs.Wakeups.{SessionSockets, Wakes, session_due}
 use Rattle.daide_sockets.proofs.InTimeLemmas.{IsBy, earlier_left, by_due, same_due, same_reading}
 use Rattle.daide_run_laws.specs.NoLostWakeups.{socket_at, Sleeps, NoWakeupIsLost}
 use Rattle.daide_run_laws.proofs.RestLemmas.{IsQuiet, none_reported, no_tries, no_writes, rests_quiet, places_kept, bounded_after}
+use Rattle.daide_driver.specs.Slab.{SlotView}
 use Rattle.daide_run_laws.proofs.TurnSettled.{PortsSettle, quiet_found, full_found}
 
 -- with bytes to write and no work a socket is not writable
@@ -72,7 +72,7 @@ module _ {P : Type 0} (port_transition : P → PortCall → P → Type 0) where
       is_absent run.ready place (none_queued port_transition run place (found_empty woken orders others run next r))
 
   -- what is known of a session at rest: its last turn, its sockets, and its deadline
-  pub record RestsAt {S : Type 0} (table : Table) (place : ℕ) (held : SessionView × QuotaPortsView P) (session : SessionSockets S) :
+  pub record RestsAt {S : Type 0} (table : Table) (place : ℕ) (held : SlotView P) (session : SessionSockets S) :
       Type 0 where
     pub idle : IsIdleSession port_transition held
     pub quiet : IsQuiet table place session
@@ -89,13 +89,13 @@ module _ {P : Type 0} (port_transition : P → PortCall → P → Type 0) where
 
     -- each session that is not queued after some rounds
     pub rests_at : (settings : Settings) (n : ℕ) (before : List (SystemCall P)) (run : ServiceView P) (first old : N × Table)
-        (place : ℕ) (held : SessionView × QuotaPortsView P) →
+        (place : ℕ) (held : SlotView P) →
         Rounds port_transition n (initial_service settings) before run → length first.1.deadlines ≡ settings.max_sessions →
         TransitsBy (Wakes transition calls view) first before old → is_queued run.ready place ≡ false →
-        slice_get run.slab.places place ≡ Some (Held held) → RestsAt old.1 place held (view held.1.ports)
+        slice_get run.slab.places place ≡ Some (Held held) → RestsAt old.1 place held (view held.ports)
     rests_at settings n before run first old place held rounds places goes queued at =
         let rest : IsAtRest port_transition before place (Held held) =
-        subst (λ (o : Option (SlabPlace (SessionView × QuotaPortsView P))). IfSome o (IsAtRest port_transition before place)) at
+        subst (λ (o : Option (SlabPlace (SlotView P))). IfSome o (IsAtRest port_transition before place)) at
         (resting_sessions_are_idle port_transition settings n before run rounds place queued) in
         let within = slice_get_within run.slab.places place (Held held) at in
         let all = rounds_length port_transition settings n before run rounds in
@@ -103,48 +103,48 @@ module _ {P : Type 0} (port_transition : P → PortCall → P → Type 0) where
         let kept = places_kept transition calls view before first old goes in
         record {
           idle = rest.0;
-          quiet = rests_quiet transition calls view before first old None place inside goes (λ ports e. absurd (cc)) held.1.ports rest.1;
+          quiet = rests_quiet transition calls view before first old None place inside goes (λ ports e. absurd (cc)) held.ports rest.1;
           inside = omega (arith, inside, kept);
-          bounded = some_bounded place (Rests place held.1.ports true) before first old rest.1 goes;
+          bounded = some_bounded place (Rests place held.ports true) before first old rest.1 goes;
         }
 
 module _ {P S : Type 0} (port_transition : P → PortCall → P → Type 0) (view : P → SessionSockets S)
     (settles : PortsSettle port_transition view) where
   one_sleeps : (table : Table) (others : List (Bool × Option Instant)) (time : Option Duration) (place : ℕ)
-      (held : SessionView × QuotaPortsView P) → IsPollTime true (arming_all table others) time →
-      RestsAt port_transition table place held (view held.1.ports) → Sleeps table time place held.0 (view held.1.ports)
+      (held : SlotView P) → IsPollTime true (arming_all table others) time →
+      RestsAt port_transition table place held (view held.ports) → Sleeps table time place held.session (view held.ports)
   one_sleeps table others time place held lasts rests = record {
-    reported = none_reported table place (view held.1.ports) rests.quiet;
+    reported = none_reported table place (view held.ports) rests.quiet;
     read = read;
     written = written;
     flushed = λ side writing. none_writable (own side).stream.write_buffer (own side).stream.has_failed
-        (own side).readiness.may_write writing.0 writing.1 (no_writes table place (view held.1.ports) rests.quiet side);
-    in_time = ends_by table others time place (view held.1.ports) lasts rests.bounded rests.quiet;
+        (own side).readiness.may_write writing.0 writing.1 (no_writes table place (view held.ports) rests.quiet side);
+    in_time = ends_by table others time place (view held.ports) lasts rests.bounded rests.quiet;
   }
     where
       own : Side → Socket S
-      own side = socket_at (view held.1.ports) side
+      own side = socket_at (view held.ports) side
 
       once : (side : Side) → (own side).tries_again ≡ false
-      once side = no_tries table place (view held.1.ports) rests.quiet side
+      once side = no_tries table place (view held.ports) rests.quiet side
 
-      read : (side : Side) → 0 < room_of held.0 side →
+      read : (side : Side) → 0 < room_of held.session side →
           ((own side).readiness.may_read ≡ false) × ((own side).stream.read_buffer ≡ [])
       read side room =
           let pulled = rests.idle.pulled side room in
           let call = pulled.2 in
           ⊎_elim (λ (again : (own side).tries_again ≡ true). let other = once side in absurd (cc))
           (λ (quiet : ((own side).readiness.may_read ≡ false) × ((own side).stream.read_buffer ≡ [])). quiet)
-          (quiet_found port_transition view settles side (min (room_of held.0 side) 512) pulled.0 pulled.1
-          rests.idle.turn call.0 call.1 call.2 rests.idle.begun held.1.ports rests.idle.evolves rests.idle.still rests.idle.made)
+          (quiet_found port_transition view settles side (min (room_of held.session side) 512) pulled.0 pulled.1
+          rests.idle.turn call.0 call.1 call.2 rests.idle.begun held.ports rests.idle.evolves rests.idle.still rests.idle.made)
 
-      written : (side : Side) → no_frame (queued held.0 side) ≡ false → (own side).readiness.may_write ≡ false
+      written : (side : Side) → no_frame (queued held.session side) ≡ false → (own side).readiness.may_write ≡ false
       written side some =
           let call = rests.idle.offered side some in
           ⊎_elim (λ (again : (own side).tries_again ≡ true). let other = once side in absurd (cc))
           (λ (full : (own side).readiness.may_write ≡ false). full)
-          (full_found port_transition view settles side (front_of held.0 side) rests.idle.turn call.0 call.1 call.2
-          rests.idle.begun held.1.ports rests.idle.evolves rests.idle.made)
+          (full_found port_transition view settles side (front_of held.session side) rests.idle.turn call.0 call.1 call.2
+          rests.idle.begun held.ports rests.idle.evolves rests.idle.made)
 
 pub no_wakeup_lost : {P S N C : Type 0} (port_transition : P → PortCall → P → Type 0) (view : P → SessionSockets S)
     (calls : S → Option (List StreamCall)) (transition : N → NetworkCall C → N → Type 0) → PortsSettle port_transition view →

@@ -19,10 +19,9 @@ use Rattle.daide_io.specs.ReadyQueue.{is_among, is_queued}
 use Rattle.daide_io.specs.Streams.{StreamCall}
 use Rattle.daide_io.specs.System.{SystemCall, Polls}
 use Rattle.daide_driver.specs.declared.place.SlabPlace.TheVariants.{Held}
-use Rattle.daide_driver.specs.Slab.{IfHeldAt}
+use Rattle.daide_driver.specs.Slab.{IfHeldAt, SlotView}
 use Rattle.daide_settings.specs.declared.settings.Settings.{Settings}
-use Rattle.daide_event_loop.specs.QuotaPorts.{QuotaPortsView}
-use Rattle.daide_event_loop.specs.Serving.{Round, fresh}
+use Rattle.daide_event_loop.specs.Serving.{Round}
 use Rattle.daide_event_loop.specs.Served.{run_limits}
 use Rattle.daide_event_loop.specs.Waiting.{MakesNoProgress, IsOfTurn, IsIdleSession}
 use Rattle.daide_sockets.specs.InTime.{arming_all}
@@ -82,70 +81,70 @@ waits_for_some limits events effects g run going =
 module _ {P S : Type 0} (port_transition : P → PortCall → P → Type 0) (timers : P → SessionTimers S)
     (settles : PortsSettle port_transition (λ ports. (timers ports).sockets)) (keeps : PortsSetTimers port_transition timers) where
   -- what a session at rest waits for, by its last turn
-  one_due : (idle stall : Duration) (place : SessionView × QuotaPortsView P) → IsIdleSession port_transition place →
-      ((side : Side) → (own (timers place.1.ports) side).tries_again ≡ false) →
-      (t : IsTimedNow idle stall (timers place.1.ports)) → WaitsForSome place.0 →
-      (due : Instant) × (session_due (timers place.1.ports).sockets ≡ Some due)
+  one_due : (idle stall : Duration) (place : SlotView P) → IsIdleSession port_transition place →
+      ((side : Side) → (own (timers place.ports) side).tries_again ≡ false) →
+      (t : IsTimedNow idle stall (timers place.ports)) → WaitsForSome place.session →
+      (due : Instant) × (session_due (timers place.ports).sockets ≡ Some due)
       × (instant_nanos due ≤ instant_nanos t.now + max (as_nanos idle) (as_nanos stall))
-  one_due idle stall place idling once t some = due_there idle stall (timers place.1.ports) t
-      (⊎_elim (λ (r : (side : Side) × (0 < room_of place.0 side)). inl (r.0, awake r.0 r.1))
-      (λ (q : (side : Side) × (no_frame (queued place.0 side) ≡ false)). inr (q.0, stalling q.0 q.1)) some)
+  one_due idle stall place idling once t some = due_there idle stall (timers place.ports) t
+      (⊎_elim (λ (r : (side : Side) × (0 < room_of place.session side)). inl (r.0, awake r.0 r.1))
+      (λ (q : (side : Side) × (no_frame (queued place.session side) ≡ false)). inr (q.0, stalling q.0 q.1)) some)
     where
-      awake : (side : Side) → 0 < room_of place.0 side → IsAwake side (timers place.1.ports)
+      awake : (side : Side) → 0 < room_of place.session side → IsAwake side (timers place.ports)
       awake side room =
           let pulled = idling.pulled side room in
           let call = pulled.2 in
           kept_from port_transition (λ (ports : P). IsAwake side (timers ports))
           (λ (c : PortCall) (a b : P) (h : port_transition a c b) (still : MakesNoProgress c) (made : IsOfTurn c)
           (k : IsAwake side (timers a)). awake_stays side c (timers a) (timers b) made (keeps a b c h) k)
-          (Pulled side (min (room_of place.0 side) 512) pulled.0 pulled.1)
-          (λ (a b : P) (h : port_transition a (Pulled side (min (room_of place.0 side) 512) pulled.0 pulled.1) b)
-          (still : MakesNoProgress (Pulled side (min (room_of place.0 side) 512) pulled.0 pulled.1))
-          (made : IsOfTurn (Pulled side (min (room_of place.0 side) 512) pulled.0 pulled.1)).
-          awake_found side (min (room_of place.0 side) 512) pulled.0 pulled.1 (timers a) (timers b)
-          (keeps a b (Pulled side (min (room_of place.0 side) 512) pulled.0 pulled.1) h) still)
-          idling.turn call.0 call.1 call.2 idling.begun place.1.ports idling.evolves idling.still idling.made
+          (Pulled side (min (room_of place.session side) 512) pulled.0 pulled.1)
+          (λ (a b : P) (h : port_transition a (Pulled side (min (room_of place.session side) 512) pulled.0 pulled.1) b)
+          (still : MakesNoProgress (Pulled side (min (room_of place.session side) 512) pulled.0 pulled.1))
+          (made : IsOfTurn (Pulled side (min (room_of place.session side) 512) pulled.0 pulled.1)).
+          awake_found side (min (room_of place.session side) 512) pulled.0 pulled.1 (timers a) (timers b)
+          (keeps a b (Pulled side (min (room_of place.session side) 512) pulled.0 pulled.1) h) still)
+          idling.turn call.0 call.1 call.2 idling.begun place.ports idling.evolves idling.still idling.made
 
-      stalling : (side : Side) → no_frame (queued place.0 side) ≡ false →
-          IsStalling (timers place.1.ports).sockets.reading (own (timers place.1.ports) side)
+      stalling : (side : Side) → no_frame (queued place.session side) ≡ false →
+          IsStalling (timers place.ports).sockets.reading (own (timers place.ports) side)
       stalling side frames =
           let call = idling.offered side frames in
-          ⊎_elim (λ (again : (own (timers place.1.ports) side).tries_again ≡ true). let other = once side in absurd (cc))
-          (λ (held : ((own (timers place.1.ports) side).readiness.may_write ≡ false)
-          × IsStalling (timers place.1.ports).sockets.reading (own (timers place.1.ports) side)). held.1)
+          ⊎_elim (λ (again : (own (timers place.ports) side).tries_again ≡ true). let other = once side in absurd (cc))
+          (λ (held : ((own (timers place.ports) side).readiness.may_write ≡ false)
+          × IsStalling (timers place.ports).sockets.reading (own (timers place.ports) side)). held.1)
           (kept_from port_transition (λ (ports : P). IsHeld side (timers ports))
           (λ (c : PortCall) (a b : P) (h : port_transition a c b) (still : MakesNoProgress c) (made : IsOfTurn c)
           (k : IsHeld side (timers a)). held_stays side c (timers a) (timers b) (settles a b c h) (keeps a b c h) still made k)
-          (Offered side (front_of place.0 side) (Took 0))
-          (λ (a b : P) (h : port_transition a (Offered side (front_of place.0 side) (Took 0)) b)
-          (still : MakesNoProgress (Offered side (front_of place.0 side) (Took 0)))
-          (made : IsOfTurn (Offered side (front_of place.0 side) (Took 0))).
-          held_found side (front_of place.0 side) (timers a) (timers b)
-          (settles a b (Offered side (front_of place.0 side) (Took 0)) h)
-          (keeps a b (Offered side (front_of place.0 side) (Took 0)) h) made)
-          idling.turn call.0 call.1 call.2 idling.begun place.1.ports idling.evolves idling.still idling.made)
+          (Offered side (front_of place.session side) (Took 0))
+          (λ (a b : P) (h : port_transition a (Offered side (front_of place.session side) (Took 0)) b)
+          (still : MakesNoProgress (Offered side (front_of place.session side) (Took 0)))
+          (made : IsOfTurn (Offered side (front_of place.session side) (Took 0))).
+          held_found side (front_of place.session side) (timers a) (timers b)
+          (settles a b (Offered side (front_of place.session side) (Took 0)) h)
+          (keeps a b (Offered side (front_of place.session side) (Took 0)) h) made)
+          idling.turn call.0 call.1 call.2 idling.begun place.ports idling.evolves idling.still idling.made)
 
   one_deadline : (settings : Settings) (calls : List (SystemCall P)) (table : Table) (others : List (Bool × Option Instant))
-      (time : Option Duration) (place : ℕ) (held : SessionView × QuotaPortsView P) →
+      (time : Option Duration) (place : ℕ) (held : SlotView P) →
       IsPollTime true (arming_all table others) time →
-      RestsAt port_transition table place held (timers held.1.ports).sockets → is_closed held.0 ≡ false → (idle stall : Duration) →
+      RestsAt port_transition table place held (timers held.ports).sockets → is_closed held.session ≡ false → (idle stall : Duration) →
       (timed : IsTimed port_transition timers settings calls idle stall held) →
-      BeginsTimed idle stall (timers timed.session.ports) → HasDeadline idle stall table time (timers held.1.ports)
+      BeginsTimed idle stall (timers timed.session.ports) → HasDeadline idle stall table time (timers held.ports)
   one_deadline settings calls table others time place held lasts rests going idle stall timed begins =
       let run = timed.session.stands.0.sends.run in
       let some = waits_for_some (run_limits settings) (events_of timed.session.history) timed.session.stands.0.sends.effects
-      held.0 run going in
-      let now : IsTimedNow idle stall (timers held.1.ports) =
-      history_timed idle stall port_transition timers keeps timed.session.history (fresh timed.session.ports settings.turns) held.1
+      held.session run going in
+      let now : IsTimedNow idle stall (timers held.ports) =
+      history_timed idle stall port_transition timers keeps timed.session.history timed.session.ports held.ports
       timed.session.answered timed.clock (begins_timed idle stall (timers timed.session.ports) begins) in
-      let due = one_due idle stall held rests.idle (no_tries table place (timers held.1.ports).sockets rests.quiet) now some in
+      let due = one_due idle stall held rests.idle (no_tries table place (timers held.ports).sockets rests.quiet) now some in
       record {
         due = due.0;
         now = now.now;
         is = due.1;
         reading = now.reading.read;
         within = due.2;
-        ends = λ at read. ends_by table others time place (timers held.1.ports).sockets lasts rests.bounded rests.quiet at due.0 read due.1;
+        ends = λ at read. ends_by table others time place (timers held.ports).sockets lasts rests.bounded rests.quiet at due.0 read due.1;
       }
 
   -- a place that keeps its deadline, which is not past, has a session whose deadline is not past
@@ -171,21 +170,21 @@ module _ {P S : Type 0} (port_transition : P → PortCall → P → Type 0) (tim
       let other = set_time settings.stall_seconds begun.times.1 times.1 stalls in
       let both : begun.times ≡ (Some one.0, Some other.0) =
       ap (λ (t : Option Duration). (t, begun.times.1)) one.1 ∙ ap (λ (t : Option Duration). (Some one.0, t)) other.1 in
-      let begins : (held : SessionView × QuotaPortsView P) →
+      let begins : (held : SlotView P) →
       (timed : IsTimed port_transition timers settings before one.0 other.0 held) →
       BeginsTimed one.0 other.0 (timers timed.session.ports) =
       λ held timed. let at = begun_with network timers timed.session.place timed.session.ports before begun last sessions
       timed.session.came in
       begins_with_both one.0 other.0 begun.times at.0 timed.start (timers timed.session.ports) both
       (seconds_last settings.idle_seconds one.0 one.2 idles) timed.begun at.1 in
-      let at_rest : (place : ℕ) → is_queued run.ready place ≡ false → (held : SessionView × QuotaPortsView P) →
-      slice_get run.slab.places place ≡ Some (Held held) → RestsAt port_transition old.1 place held (view held.1.ports) =
+      let at_rest : (place : ℕ) → is_queued run.ready place ≡ false → (held : SlotView P) →
+      slice_get run.slab.places place ≡ Some (Held held) → RestsAt port_transition old.1 place held (view held.ports) =
       λ place queued held at. rests_at port_transition network calls view settings n before run first old place held rounds places
       trace queued at in
       let at_block : (is : Bool) → is ≡ true → IsPollTime is (arming_all old.1 poll.1.0) poll.1.1.time →
       Round port_transition run (Polls is woken orders ∷ others) next → (place : ℕ) → IfHeldAt run.slab.places place (λ held.
       IsTimed port_transition timers settings before one.0 other.0 held →
-      HasDeadline one.0 other.0 old.1 poll.1.1.time (timers held.1.ports)) =
+      HasDeadline one.0 other.0 old.1 poll.1.1.time (timers held.ports)) =
       λ is yes lasts again place held at timed.
       one_deadline settings before old.1 poll.1.0 poll.1.1.time place held
       (subst (λ (b : Bool). IsPollTime b (arming_all old.1 poll.1.0) poll.1.1.time) yes lasts)
@@ -202,5 +201,5 @@ module _ {P S : Type 0} (port_transition : P → PortCall → P → Type 0) (tim
         deadlines = λ yes. at_block may_block yes poll.1.1.lasts round;
         late = λ place queued held at.
             (let rests = at_rest place queued held at in
-            one_late old.1 new.1 woken place (view held.1.ports) rests.quiet (poll.1.1.asleep place rests.inside));
+            one_late old.1 new.1 woken place (view held.ports) rests.quiet (poll.1.1.asleep place rests.inside));
       }

@@ -7,7 +7,7 @@ use Rattle.std.specs.declared.net.socket_addr.SocketAddr.{SocketAddr}
 use Rattle.std.specs.declared.time.Duration.{Duration}
 use Rattle.std.specs.declared.time.Instant.{Instant}
 use Rattle.daide_frame.specs.declared.side.Side.TheVariants.{Bot, Server}
-use Rattle.daide_protocol.specs.Wires.{SessionView, room_of, queued, no_frame}
+use Rattle.daide_protocol.specs.Wires.{room_of, queued, no_frame}
 use Rattle.daide_io.specs.Network.{NetworkCall}
 use Rattle.daide_io.specs.Ports.{PortCall}
 use Rattle.daide_io.specs.ReadyQueue.{is_among, is_queued}
@@ -17,9 +17,8 @@ use Rattle.daide_io.specs.declared.system.Orders.{Orders}
 use Rattle.daide_settings.specs.BotsInAll.{bots_in_all}
 use Rattle.daide_settings.specs.declared.settings.Settings.{Settings}
 use Rattle.daide_driver.specs.declared.place.SlabPlace.TheVariants.{Free, Held}
-use Rattle.daide_driver.specs.Slab.{IsAt}
-use Rattle.daide_event_loop.specs.QuotaPorts.{QuotaPortsView}
-use Rattle.daide_event_loop.specs.Serving.{ServiceView, Round, Rounds, initial_service, have_all_come, fresh}
+use Rattle.daide_driver.specs.Slab.{IsAt, SlotView}
+use Rattle.daide_event_loop.specs.Serving.{ServiceView, Round, Rounds, initial_service, have_all_come}
 use Rattle.daide_event_loop.specs.Served.{IsServed}
 use Rattle.daide_sockets.specs.Accepting.{is_bot_due, AcceptsThenConnects}
 use Rattle.daide_sockets.specs.declared.ports.SocketPorts.{SocketPorts}
@@ -44,25 +43,25 @@ module _ {P S N C : Type 0} (port_transition : P → PortCall → P → Type 0) 
     (places : length first.1.deadlines ≡ settings.max_sessions)
     (trace : TransitsBy (Wakes transition calls view) first before old)
     (poll : Wakes transition calls view old (Polls true woken orders) new)
-    (held : SessionView × QuotaPortsView P) (at : slice_get run.slab.places 3 ≡ Some (Held held)) where
+    (held : SlotView P) (at : slice_get run.slab.places 3 ≡ Some (Held held)) where
   -- the third round of a run, whose poll may block
   asleep : PollsAsleep transition view run.slab.places woken old new
   asleep = law settings 2 before others woken orders run next first old new rounds round places trace poll
 
-  one : Sleeps old.1 asleep.polls.time 3 held.0 (view held.1.ports)
+  one : Sleeps old.1 asleep.polls.time 3 held.session (view held.ports)
   one = asleep.asleep 3 held at
 
   -- the bot's socket of a session with room is not readable
-  unreadable : 0 < room_of held.0 Bot → (view held.1.ports).bot.readiness.may_read ≡ false
+  unreadable : 0 < room_of held.session Bot → (view held.ports).bot.readiness.may_read ≡ false
   unreadable room = (one.read Bot room).0
 
   -- while a frame is queued for the server, its socket is not writable
-  unwritable : no_frame (queued held.0 Server) ≡ false → (view held.1.ports).server.readiness.may_write ≡ false
+  unwritable : no_frame (queued held.session Server) ≡ false → (view held.ports).server.readiness.may_write ≡ false
   unwritable some = one.written Server some
 
   -- beside a deadline seven nanoseconds after the reading, the poll lasts at most as long
   within_seven : (now due : Instant) (time : Duration) → old.1.reading ≡ Some now →
-      session_due (view held.1.ports) ≡ Some due → instant_nanos due ≡ instant_nanos now + 7 →
+      session_due (view held.ports) ≡ Some due → instant_nanos due ≡ instant_nanos now + 7 →
       asleep.polls.time ≡ Some time → as_nanos time ≤ 7
   within_seven now due time reading deadline seven is =
       let most : as_nanos time ≤ instant_nanos due - instant_nanos now =
@@ -71,16 +70,16 @@ module _ {P S N C : Type 0} (port_transition : P → PortCall → P → Type 0) 
 
 module _ {P S N C : Type 0} (port_transition : P → PortCall → P → Type 0) (transition : N → NetworkCall C → N → Type 0)
     (timers : P → SessionTimers S) (law : DeadlinesPassSeldom port_transition timers transition) (settings : Settings)
-    (trace : List (SystemCall P)) (place : SessionView × QuotaPortsView P)
+    (trace : List (SystemCall P)) (place : SlotView P)
     (session : IsServed port_transition settings trace place) (idle stall : Duration) (begun last : RunState N S)
     (sessions : TransitsBy (Schedules transition timers) begun trace last)
-    (clock : ClockGoesOn port_transition timers idle stall session.history (fresh session.ports settings.turns) place.1 session.answered)
+    (clock : ClockGoesOn port_transition timers idle stall session.history session.ports place.ports session.answered)
   where
     -- without a byte from a peer a session has at most five turns that begin at or past its deadline
     five_at_most : deliveries session.history ≡ 0 →
-        overdue_turns port_transition timers session.history (fresh session.ports settings.turns) place.1 session.answered ≤ 5
+        overdue_turns port_transition timers session.history session.ports place.ports session.answered ≤ 5
     five_at_most none =
-        let all = law settings trace (fresh session.ports settings.turns) session.history place idle stall begun last
+        let all = law settings trace session.ports session.history place idle stall begun last
         (record { session = session; early = []; history = refl; before = refl; since = session.answered }) sessions clock in
         let least = all.0 in
         let most = all.1 in
@@ -88,11 +87,11 @@ module _ {P S N C : Type 0} (port_transition : P → PortCall → P → Type 0) 
 
 module _ {P S : Type 0} (port_transition : P → PortCall → P → Type 0) (timers : P → SessionTimers S)
     (law : TimeoutsStay port_transition timers) (settings : Settings) (trace : List (SystemCall P))
-    (mid : QuotaPortsView P) (late : List PortCall) (place : SessionView × QuotaPortsView P)
+    (mid : P) (late : List PortCall) (place : SlotView P)
     (from : CameFrom port_transition timers settings trace mid late place) where
   -- while a bot sends nothing, its silence is over at the same moment as before
-  silence_stays : IsQuietFor port_transition timers Bot late mid place.1 from.since →
-      (timers place.1.ports).sockets.bot.silent_from ≡ (timers mid.ports).sockets.bot.silent_from
+  silence_stays : IsQuietFor port_transition timers Bot late mid place.ports from.since →
+      (timers place.ports).sockets.bot.silent_from ≡ (timers mid).sockets.bot.silent_from
   silence_stays quiet = (law settings trace mid late place Bot from quiet).silence
 
 module _ {P S N C : Type 0} (port_transition : P → PortCall → P → Type 0) (timers : P → SessionTimers S)
@@ -103,7 +102,7 @@ module _ {P S N C : Type 0} (port_transition : P → PortCall → P → Type 0) 
     (rounds : Rounds port_transition 2 (initial_service settings) before run)
     (places : length first.1.deadlines ≡ settings.max_sessions) (sessions : TransitsBy (Schedules transition timers) begun before last)
     (trace : TransitsBy (Wakes transition calls (λ (p : P). (timers p).sockets)) first before old)
-    (held : SessionView × QuotaPortsView P) (at : slice_get run.slab.places 3 ≡ Some (Held held)) where
+    (held : SlotView P) (at : slice_get run.slab.places 3 ≡ Some (Held held)) where
   module _ (may_block : Bool) (round : Round port_transition run (Polls may_block woken orders ∷ others) next)
       (poll : Wakes transition calls (λ (p : P). (timers p).sockets) old (Polls may_block woken orders) new) where
     by_deadlines : PollsByDeadlines port_transition timers transition settings before run may_block woken old new
@@ -112,7 +111,7 @@ module _ {P S N C : Type 0} (port_transition : P → PortCall → P → Type 0) 
         trace poll
 
     -- a session that rests is woken when its deadline is past, by a poll of either kind
-    late_is_woken : is_queued run.ready 3 ≡ false → is_past new.1.reading (session_due (timers held.1.ports).sockets) ≡ true →
+    late_is_woken : is_queued run.ready 3 ≡ false → is_past new.1.reading (session_due (timers held.ports).sockets) ≡ true →
         is_among 3 woken ≡ true
     late_is_woken rests past = by_deadlines.late 3 rests held at past
 
@@ -120,12 +119,12 @@ module _ {P S N C : Type 0} (port_transition : P → PortCall → P → Type 0) 
   ends_within_seven : (round : Round port_transition run (Polls true woken orders ∷ others) next)
       (poll : Wakes transition calls (λ (p : P). (timers p).sockets) old (Polls true woken orders) new) (time : Duration)
       (read : Instant) → IsTimed port_transition timers settings before (by_deadlines true round poll).idle
-      (by_deadlines true round poll).stall held → old.1.reading ≡ Some read → (timers held.1.ports).sockets.reading ≡ Some read →
+      (by_deadlines true round poll).stall held → old.1.reading ≡ Some read → (timers held.ports).sockets.reading ≡ Some read →
       (by_deadlines true round poll).polls.time ≡ Some time → as_nanos time ≤ 7000000000
   ends_within_seven round poll time read timed read_now begun_at is =
       let polled = by_deadlines true round poll in
       let own = polled.deadlines refl 3 held at timed in
-      let same : own.now ≡ read = one_instant own.now read (timers held.1.ports).sockets.reading own.reading begun_at in
+      let same : own.now ≡ read = one_instant own.now read (timers held.ports).sockets.reading own.reading begun_at in
       let nanos = ap instant_nanos same in
       let within = own.within in
       let idle = polled.idle_lasts in

@@ -2,7 +2,7 @@
 use Rattle.std.proofs.Common.{◌≡◌, ◌≢◌, ℕ, zero, suc, Bool, true, false, List, [], ◌∷◌, Option, Some, None, inl, inr, refl, sym, ap, ◌∙◌, subst}
 use Rattle.std.specs.Prelude.{◌==◌, slice_get, if◌then◌else◌}
 use Rattle.std.proofs.lemmas.Bool.{eqb-true, eqb-false}
-use Rattle.daide_protocol.specs.Wires.{SessionView, is_closed}
+use Rattle.daide_protocol.specs.Wires.{is_closed}
 use Rattle.daide_settings.specs.declared.settings.Settings.{Settings}
 use Rattle.daide_io.specs.Ports.{PortCall}
 use Rattle.daide_io.specs.System.{SystemCall}
@@ -10,25 +10,24 @@ use Rattle.daide_io.specs.declared.system.Connect.{Connect}
 use Rattle.daide_io.specs.declared.system.Connect.TheVariants.{Ready, Failed, Pending}
 use Rattle.daide_driver.specs.declared.place.SlabPlace.{SlabPlace}
 use Rattle.daide_driver.specs.declared.place.SlabPlace.TheVariants.{Free, Kept, Held}
-use Rattle.daide_driver.specs.Slab.{SlabView, IsAt, IfHeldAt, all_free, with_place}
-use Rattle.daide_event_loop.specs.QuotaPorts.{QuotaPortsView}
-use Rattle.daide_event_loop.specs.Serving.{ServiceView, fresh, LeavesVisit, TurnsAndLeaves, JoinsBy, VisitsBy, Visits, queued_again}
+use Rattle.daide_driver.specs.Slab.{SlabView, IsAt, IfHeldAt, all_free, with_place, SlotView, new_slot}
+use Rattle.daide_event_loop.specs.Serving.{ServiceView, LeavesVisit, TurnsAndLeaves, JoinsBy, VisitsBy, Visits, queued_again}
 use Rattle.daide_event_loop.specs.Serving.{Admits, accepted_at, polled, Rounds, initial_service}
 use Rattle.daide_event_loop.proofs.BeginningLemmas.{get_set}
 use Rattle.daide_event_loop.proofs.ServedLemmas.{ChangesOnlyAt, same_there, one_there, held_here, turns_there_only}
 
 module _ {P : Type 0} where
-  abbrev IsOpen : ℕ → SessionView × QuotaPortsView P → Type 0
-  IsOpen place held = is_closed held.0 ≡ false
+  abbrev IsOpen : ℕ → SlotView P → Type 0
+  IsOpen place held = is_closed held.session ≡ false
 
-  abbrev AllOpen : SlabView (QuotaPortsView P) → Type 0
+  abbrev AllOpen : SlabView P → Type 0
   AllOpen slab = (place : ℕ) → IfHeldAt slab.places place (IsOpen place)
 
   -- the same but at one place
-  abbrev AllOthersOpen : ℕ → SlabView (QuotaPortsView P) → Type 0
+  abbrev AllOthersOpen : ℕ → SlabView P → Type 0
   AllOthersOpen place slab = (other : ℕ) → other ≢ place → IfHeldAt slab.places other (IsOpen other)
 
-  all_open : (place : ℕ) (old new : SlabView (QuotaPortsView P)) → ChangesOnlyAt place old new → AllOthersOpen place old →
+  all_open : (place : ℕ) (old new : SlabView P) → ChangesOnlyAt place old new → AllOthersOpen place old →
       IfHeldAt new.places place (IsOpen place) → AllOpen new
   all_open place old new only others here other = by (other == place) refl
     where
@@ -38,28 +37,28 @@ module _ {P : Type 0} where
           let apart = eqb-false other place e in
           λ held at. others other apart held (sym (only.beside other apart) ∙ at)
 
-  others_stay : (place : ℕ) (old new : SlabView (QuotaPortsView P)) → ChangesOnlyAt place old new → AllOthersOpen place old →
+  others_stay : (place : ℕ) (old new : SlabView P) → ChangesOnlyAt place old new → AllOthersOpen place old →
       AllOthersOpen place new
   others_stay place old new only others = λ other apart held at. others other apart held (sym (only.beside other apart) ∙ at)
 
   -- something that is no session is put at a place
-  put_open : (old : SlabView (QuotaPortsView P)) (place : ℕ) (was now : SlabPlace (SessionView × QuotaPortsView P)) (new : SlabView (QuotaPortsView P)) →
-      IsAt old place was → new ≡ with_place old place now → ((held : SessionView × QuotaPortsView P) → now ≡ Held held → IsOpen place held) →
+  put_open : (old : SlabView P) (place : ℕ) (was now : SlabPlace (SlotView P)) (new : SlabView P) →
+      IsAt old place was → new ≡ with_place old place now → ((held : SlotView P) → now ≡ Held held → IsOpen place held) →
       AllOthersOpen place old → AllOpen new
   put_open old place was now new at e here others =
       all_open place old new (one_there place old new now e) others
       (λ held there. here held
       (let own : slice_get new.places place ≡ Some now =
-      ap (λ (s : SlabView (QuotaPortsView P)). slice_get s.places place) e ∙ get_set old.places place now was at in cc))
+      ap (λ (s : SlabView P). slice_get s.places place) e ∙ get_set old.places place now was at in cc))
 
-  leaves_open : (closed : Bool) (now : SessionView × QuotaPortsView P) (old : ServiceView P) (place : ℕ) (trace : List (SystemCall P)) (new : ServiceView P) →
-      IsAt old.slab place (Held now) → is_closed now.0 ≡ closed → LeavesVisit closed now old place trace new →
+  leaves_open : (closed : Bool) (now : SlotView P) (old : ServiceView P) (place : ℕ) (trace : List (SystemCall P)) (new : ServiceView P) →
+      IsAt old.slab place (Held now) → is_closed now.session ≡ closed → LeavesVisit closed now old place trace new →
       AllOthersOpen place old.slab → AllOpen new.slab
   leaves_open true now old place trace new at e h others =
       put_open old.slab place (Held now) Free new.slab at (ap (λ (s : ServiceView P). s.slab) h.1) (λ held is. absurd (cc)) others
   leaves_open false now old place trace new at e h others =
       all_open place old.slab new.slab (same_there place old.slab new.slab same) others
-      (subst (λ (s : SlabView (QuotaPortsView P)). IfHeldAt s.places place (IsOpen place)) (sym same)
+      (subst (λ (s : SlabView P). IfHeldAt s.places place (IsOpen place)) (sym same)
       (held_here old.slab place now (IsOpen place) at e))
     where
       by : (rests : Bool) → (if rests then old else queued_again old place).slab ≡ old.slab
@@ -73,13 +72,13 @@ module _ {P : Type 0} (port_transition : P → PortCall → P → Type 0) where
   given_open : (old : ServiceView P) (place turns : ℕ) (trace : List (SystemCall P)) (new : ServiceView P) →
       TurnsAndLeaves port_transition old place turns trace new → AllOthersOpen place old.slab → AllOpen new.slab
   given_open old place turns trace new h others =
-      leaves_open (is_closed h.now.0) h.now (record old { slab = h.turned }) place h.leaving new h.there refl h.leaves
+      leaves_open (is_closed h.now.session) h.now (record old { slab = h.turned }) place h.leaving new h.there refl h.leaves
       (others_stay place old.slab h.turned (turns_there_only port_transition turns old.slab place h.turning h.turned h.takes.made) others)
 
   same_open : (old new : ServiceView P) → new ≡ old → AllOpen old.slab → AllOpen new.slab
   same_open old new e each = subst (λ (s : ServiceView P). AllOpen s.slab) (sym e) each
 
-  visit_open : (at : Option (SlabPlace (SessionView × QuotaPortsView P))) (old : ServiceView P) (place turns : ℕ) (trace : List (SystemCall P))
+  visit_open : (at : Option (SlabPlace (SlotView P))) (old : ServiceView P) (place turns : ℕ) (trace : List (SystemCall P))
       (new : ServiceView P) → slice_get old.slab.places place ≡ at → VisitsBy port_transition at old place turns trace new →
       AllOpen old.slab → AllOpen new.slab
   visit_open None old place turns trace new there h each = same_open old new h.2 each
@@ -93,7 +92,7 @@ module _ {P : Type 0} (port_transition : P → PortCall → P → Type 0) where
           AllOpen new.slab
       by (Ready ports) joining m =
           given_open (record old { slab = m.0 }) place turns joining new m.2
-          (others_stay place old.slab m.0 (one_there place old.slab m.0 (Held (m.1.0, fresh ports old.counters.turns)) m.1.2) others)
+          (others_stay place old.slab m.0 (one_there place old.slab m.0 (Held (new_slot m.1.0 ports old.counters.turns)) m.1.2) others)
       by Failed joining m =
           put_open old.slab place Kept Free new.slab there (ap (λ (s : ServiceView P). s.slab) m.2) (λ held is. absurd (cc)) others
       by Pending joining m = same_open old new m.2 each
@@ -118,8 +117,8 @@ module _ {P : Type 0} (port_transition : P → PortCall → P → Type 0) where
           (λ other apart. each other)
       by false = each
 
-  none_held : (count place : ℕ) (held : SessionView × QuotaPortsView P) → slice_get (all_free {T = SessionView × QuotaPortsView P} count) place ≡ Some (Held held) →
-      is_closed held.0 ≡ false
+  none_held : (count place : ℕ) (held : SlotView P) → slice_get (all_free {T = SlotView P} count) place ≡ Some (Held held) →
+      is_closed held.session ≡ false
   none_held zero zero held e = absurd (cc)
   none_held zero (suc place) held e = absurd (cc)
   none_held (suc count) zero held e = absurd (cc)

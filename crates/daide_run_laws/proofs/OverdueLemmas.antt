@@ -14,8 +14,6 @@ use Rattle.daide_io.specs.declared.ports.Put.{Put}
 use Rattle.daide_io.specs.Network.{NetworkCall}
 use Rattle.daide_io.specs.ReadyQueue.{one_if}
 use Rattle.daide_io.specs.Ports.{PortCall, TurnBegins, Clock, Pulled, Offered, EvolvesBy}
-use Rattle.daide_event_loop.specs.QuotaPorts.{QuotaPortsView, Meters, EvolvesWhile}
-use Rattle.daide_event_loop.specs.Serving.{fresh}
 use Rattle.daide_sockets.specs.declared.socket.Socket.{Socket}
 use Rattle.daide_sockets.specs.Sockets.{due_after, next_deadline}
 use Rattle.daide_io.specs.Deadline.{earlier}
@@ -25,7 +23,7 @@ use Rattle.daide_sockets.specs.Wakeups.{session_due}
 use Rattle.daide_run_laws.specs.FreedPlaces.{IsLater, ClockGoesOn, peer_timeouts_left, timeouts_left}
 use Rattle.daide_run_laws.specs.FreedPlaces.{is_overdue, overdue_turns, deliveries, DeadlinesPassSeldom}
 use Rattle.daide_run_laws.proofs.BegunSessions.{begun_with}
-use Rattle.daide_run_laws.proofs.TimedSessions.{PortsSetTimers, own, KeepsStall, step_stall, made_or_spent}
+use Rattle.daide_run_laws.proofs.TimedSessions.{PortsSetTimers, own, KeepsStall, step_stall}
 
 -- ---- counts
 
@@ -308,55 +306,29 @@ module _ {S : Type 0} where
 
 module _ {P S : Type 0} (port_transition : P → PortCall → P → Type 0) (timers : P → SessionTimers S)
     (keeps : PortsSetTimers port_transition timers) (idle stall : Duration) where
-  abbrev left : QuotaPortsView P → ℕ
-  left m = timeouts_left (timers m.ports)
-
-  spent_left : (a b : QuotaPortsView P) → b.ports ≡ a.ports → left b ≡ left a
-  spent_left a b e = ap (λ (p : P). timeouts_left (timers p)) e
+  abbrev left : P → ℕ
+  left ports = timeouts_left (timers ports)
 
   -- each peer of a session has a stall timeout, or never one that runs
-  abbrev IsSet : QuotaPortsView P → Type 0
-  IsSet m = (side : Side) → MayStall (own (timers m.ports) side)
+  abbrev IsSet : P → Type 0
+  IsSet ports = (side : Side) → MayStall (own (timers ports) side)
 
   -- the call that begins a turn
-  begins_left : (a b : QuotaPortsView P) → Meters port_transition a TurnBegins b → IsSet a →
-      IsLater idle stall (timers a.ports).sockets.reading (timers b.ports).sockets.reading →
+  begins_left : (a b : P) → port_transition a TurnBegins b → IsSet a →
+      IsLater idle stall (timers a).sockets.reading (timers b).sockets.reading →
       left b + one_if (is_overdue port_transition timers a b) ≤ left a
-  begins_left a b h set later = by b.turns_left refl h.ports
-    where
-      past : Bool
-      past = is_past (timers b.ports).sockets.reading (session_due (timers a.ports).sockets)
+  begins_left a b h set later = begun_left idle stall (timers a) (timers b) set later (keeps a b TurnBegins h)
 
-      by : (turns : Option ℕ) → b.turns_left ≡ turns → EvolvesWhile port_transition turns a.ports TurnBegins b.ports →
-          left b + one_if (is_overdue port_transition timers a b) ≤ left a
-      by None e k =
-          let same = spent_left a b k.1 in
-          let none : one_if (is_overdue port_transition timers a b) ≡ 0 = ap (λ (t : Option ℕ). one_if (is_some t && past)) e in
-          omega (arith, same, none)
-      by (Some n) e k =
-          let least = begun_left idle stall (timers a.ports) (timers b.ports) set later (keeps a.ports b.ports TurnBegins k) in
-          let is : one_if (is_overdue port_transition timers a b) ≡ one_if past = ap (λ (t : Option ℕ). one_if (is_some t && past)) e in
-          omega (arith, least, is)
+  set_then : (call : PortCall) (a b : P) → port_transition a call b → IsSet a → IsSet b
+  set_then call a b h set side =
+      may_stall_then (timers b).sockets.reading (own (timers a) side) (own (timers b) side)
+      (step_stall call (timers a) (timers b) (keeps a b call h) side) (set side)
 
-  other_left : (call : PortCall) (more : ℕ) (a b : QuotaPortsView P) → Meters port_transition a call b →
-      (SetsTimers call (timers a.ports) (timers b.ports) → left b ≤ left a + more) → left b ≤ left a + more
-  other_left call more a b h by = ⊎_elim by
-      (λ (e : b.ports ≡ a.ports). let same = spent_left a b e in omega (arith, same))
-      (made_or_spent idle stall port_transition timers keeps call a b h)
-
-  set_then : (call : PortCall) (a b : QuotaPortsView P) → Meters port_transition a call b → IsSet a → IsSet b
-  set_then call a b h set side = ⊎_elim
-      (λ (t : SetsTimers call (timers a.ports) (timers b.ports)).
-      may_stall_then (timers b.ports).sockets.reading (own (timers a.ports) side) (own (timers b.ports) side)
-      (step_stall call (timers a.ports) (timers b.ports) t side) (set side))
-      (λ (e : b.ports ≡ a.ports). subst (λ (p : P). MayStall (own (timers p) side)) (sym e) (set side))
-      (made_or_spent idle stall port_transition timers keeps call a b h)
-
-  set_by : (calls : List PortCall) (a b : QuotaPortsView P) → EvolvesBy (Meters port_transition) a calls b → IsSet a → IsSet b
-  set_by [] a b h set = λ side. subst (λ (m : QuotaPortsView P). MayStall (own (timers m.ports) side)) (sym h) (set side)
+  set_by : (calls : List PortCall) (a b : P) → EvolvesBy port_transition a calls b → IsSet a → IsSet b
+  set_by [] a b h set = λ side. subst (λ (ports : P). MayStall (own (timers ports) side)) (sym h) (set side)
   set_by (call ∷ calls) a b h set = set_by calls h.0 b h.2 (set_then call a h.0 h.1 set)
 
-  overdue_left : (calls : List PortCall) (a b : QuotaPortsView P) (h : EvolvesBy (Meters port_transition) a calls b) →
+  overdue_left : (calls : List PortCall) (a b : P) (h : EvolvesBy port_transition a calls b) →
       ClockGoesOn port_transition timers idle stall calls a b h → IsSet a →
       overdue_turns port_transition timers calls a b h + left b ≤ left a + deliveries calls
   overdue_left [] a b h clock set = let same = ap left h in omega (arith, same)
@@ -365,20 +337,15 @@ module _ {P S : Type 0} (port_transition : P → PortCall → P → Type 0) (tim
       let rest = overdue_left calls h.0 b h.2 clock.1 (set_then TurnBegins a h.0 h.1 set) in
       omega (arith, first, rest)
   overdue_left (Clock event ∷ calls) a b h clock set =
-      let first = other_left (Clock event) 0 a h.0 h.1
-      (λ (t : SetsTimers (Clock event) (timers a.ports) (timers h.0.ports)).
-      let least = clock_left event (timers a.ports) (timers h.0.ports) t in omega (arith, least)) in
+      let first = clock_left event (timers a) (timers h.0) (keeps a h.0 (Clock event) h.1) in
       let rest = overdue_left calls h.0 b h.2 clock (set_then (Clock event) a h.0 h.1 set) in
       omega (arith, first, rest)
   overdue_left (Pulled side room pull bytes ∷ calls) a b h clock set =
-      let first = other_left (Pulled side room pull bytes) (one_if (is_got pull)) a h.0 h.1
-      (pulled_left side room pull bytes (timers a.ports) (timers h.0.ports)) in
+      let first = pulled_left side room pull bytes (timers a) (timers h.0) (keeps a h.0 (Pulled side room pull bytes) h.1) in
       let rest = overdue_left calls h.0 b h.2 clock (set_then (Pulled side room pull bytes) a h.0 h.1 set) in
       omega (arith, first, rest)
   overdue_left (Offered side bytes put ∷ calls) a b h clock set =
-      let first = other_left (Offered side bytes put) 0 a h.0 h.1
-      (λ (t : SetsTimers (Offered side bytes put) (timers a.ports) (timers h.0.ports)).
-      let least = offered_left side bytes put (timers a.ports) (timers h.0.ports) t in omega (arith, least)) in
+      let first = offered_left side bytes put (timers a) (timers h.0) (keeps a h.0 (Offered side bytes put) h.1) in
       let rest = overdue_left calls h.0 b h.2 clock (set_then (Offered side bytes put) a h.0 h.1 set) in
       omega (arith, first, rest)
 
@@ -388,8 +355,8 @@ pub deadlines_pass_seldom : {P S N C : Type 0} (port_transition : P → PortCall
 deadlines_pass_seldom port_transition timers keeps network =
     λ settings trace mid late place idle stall begun last from sessions clock.
     let at = begun_with network timers from.session.place from.session.ports trace begun last sessions from.session.came in (
-      overdue_left port_transition timers keeps idle stall late mid place.1 from.since clock
-          (set_by port_transition timers keeps idle stall from.early (fresh from.session.ports settings.turns) mid from.before
+      overdue_left port_transition timers keeps idle stall late mid place.ports from.since clock
+          (set_by port_transition timers keeps idle stall from.early from.session.ports mid from.before
           (begins_stall at.0 begun.times (timers from.session.ports) at.1)),
-      at_most_five (timers mid.ports),
+      at_most_five (timers mid),
     )

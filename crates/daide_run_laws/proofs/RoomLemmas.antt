@@ -1,12 +1,12 @@
 -- The sockets have room for each bot that the loop may accept.
 use Rattle.std.proofs.Common.{◌≡◌, ◌≢◌, ◌≤◌, ◌<◌, ℕ, zero, suc, ◌+◌, Bool, true, false, List, [], ◌∷◌, ◌++◌, length, refl, sym, ap, ◌∙◌, subst, arith, inl, inr}
-use Rattle.std.specs.Prelude.{◌||◌, ◌&&◌, not, ◌==◌, All, Option, Some, None, is_none, slice_get, slice_set, if◌then◌else◌}
+use Rattle.std.specs.Prelude.{◌||◌, ◌&&◌, not, ◌==◌, All, Option, Some, None, slice_get, slice_set, if◌then◌else◌}
 use Rattle.std.proofs.lemmas.Bool.{eqb-true, eqb-false}
 use Rattle.std.proofs.lemmas.List.{append-nil, append_assoc, length-append}
 use Rattle.std.proofs.lemmas.List.Elements.{All-nil, All-cons, All-head, All-tail, All-same, All-append, All-push, All-weaker}
 use Rattle.std.proofs.lemmas.Option.{slice_get_within}
 use Rattle.daide_frame.proofs.ListLemmas.{eqb_same}
-use Rattle.daide_protocol.specs.Wires.{SessionView, is_closed}
+use Rattle.daide_protocol.specs.Wires.{is_closed}
 use Rattle.daide_settings.specs.BotsInAll.{bots_in_all}
 use Rattle.daide_settings.specs.declared.settings.Settings.{Settings}
 use Rattle.daide_io.specs.Network.{NetworkCall}
@@ -18,9 +18,8 @@ use Rattle.daide_io.specs.declared.system.Connect.TheVariants.{Ready, Failed, Pe
 use Rattle.daide_io.specs.declared.system.Notice.TheVariants.{TurnsSpent}
 use Rattle.daide_driver.specs.declared.place.SlabPlace.{SlabPlace}
 use Rattle.daide_driver.specs.declared.place.SlabPlace.TheVariants.{Free, Kept, Held}
-use Rattle.daide_driver.specs.Slab.{SlabView, IsAt, is_at, is_kept, is_so, with_place}
+use Rattle.daide_driver.specs.Slab.{SlabView, IsAt, is_at, is_kept, is_so, with_place, SlotView}
 use Rattle.daide_event_loop.specs.declared.admission_counters.AdmissionCounters.{AdmissionCounters}
-use Rattle.daide_event_loop.specs.QuotaPorts.{QuotaPortsView}
 use Rattle.daide_event_loop.specs.Served.{accept_calls, comes, sum_over_calls}
 use Rattle.daide_event_loop.specs.Serving.{ServiceView, LeavesVisit, TurnsAndLeaves, JoinsBy, VisitsBy, Visits, spent_notice, retirement, end_of}
 use Rattle.daide_event_loop.specs.Serving.{Admits, accepted_at, opening, polled, closed, have_all_come, Round, Rounds, initial_service}
@@ -35,6 +34,7 @@ use Rattle.daide_sockets.specs.Pairing.{Arriving, Paired, RunSockets, StaysPendi
 use Rattle.daide_sockets.specs.Scheduling.{RunState, RunEvolves, HasRoomForBot, HoldsRows, sockets_in, pair_of}
 use Rattle.daide_sockets.specs.declared.ports.SocketPorts.{SocketPorts}
 use Rattle.daide_run_laws.specs.Room.{EachBotHasRoom}
+use Rattle.daide_driver.specs.Meter.{has_spent_turns}
 use Rattle.daide_run_laws.proofs.RestLemmas.{set_other}
 
 -- ---- the connect of a place, by the calls of a run
@@ -196,21 +196,21 @@ module _ {P S : Type 0} (to_give taken : S → Option (List ℕ)) (calls : S →
 
 module _ {P : Type 0} (port_transition : P → PortCall → P → Type 0) where
   -- no connect is pending at a place that is not kept
-  abbrev IsSettled : List (SystemCall P) → SlabView (QuotaPortsView P) → Type 0
+  abbrev IsSettled : List (SystemCall P) → SlabView P → Type 0
   IsSettled calls slab = (place : ℕ) → is_at is_kept slab.places place ≡ false → pending_by place false calls ≡ false
 
-  leave_calm : (q : ℕ) (closed : Bool) (now : SessionView × QuotaPortsView P) (old : ServiceView P) (place : ℕ)
+  leave_calm : (q : ℕ) (closed : Bool) (now : SlotView P) (old : ServiceView P) (place : ℕ)
       (trace : List (SystemCall P)) (new : ServiceView P) → LeavesVisit closed now old place trace new → All (IsCalm q) trace
   leave_calm q true now old place trace new h =
-      All-same (IsCalm q) trace (retirement place now.1 (end_of now)) h.0
-      (All-push (IsCalm q) (spent_notice (is_none now.1.turns_left)) (Retires place now.1.ports (end_of now))
-      (spoken (is_none now.1.turns_left)) (λ was. refl))
+      All-same (IsCalm q) trace (retirement place now.ports now.meter (end_of now)) h.0
+      (All-push (IsCalm q) (spent_notice (has_spent_turns now.meter)) (Retires place now.ports (end_of now))
+      (spoken (has_spent_turns now.meter)) (λ was. refl))
     where
       spoken : (b : Bool) → All (IsCalm {P = P} q) (spent_notice b)
       spoken true = All-cons (IsCalm q) (Notifies TurnsSpent) [] (λ was. refl) (All-nil (IsCalm q))
       spoken false = All-nil (IsCalm q)
   leave_calm q false now old place trace new h =
-      all_rests port_transition (IsCalm q) place (λ ports rests was. refl) now.1.made_progress now.1.ports trace h.0 h.1
+      all_rests port_transition (IsCalm q) place (λ ports rests was. refl) now.meter.moved.made_progress now.ports trace h.0 h.1
 
   given_calm : (q : ℕ) (old : ServiceView P) (place turns : ℕ) (trace : List (SystemCall P)) (new : ServiceView P) →
       TurnsAndLeaves port_transition old place turns trace new → All (IsCalm q) trace
@@ -218,10 +218,10 @@ module _ {P : Type 0} (port_transition : P → PortCall → P → Type 0) where
       All-same (IsCalm q) trace (h.turning ++ h.leaving) h.asked
       (All-append (IsCalm q) h.turning h.leaving
       (all_turns port_transition (IsCalm q) place (λ before after was. refl) turns old.slab h.turning h.turned h.takes.made)
-      (leave_calm q (is_closed h.now.0) h.now (record old { slab = h.turned }) place h.leaving new h.leaves))
+      (leave_calm q (is_closed h.now.session) h.now (record old { slab = h.turned }) place h.leaving new h.leaves))
 
   -- calls at one place, after which it is settled
-  settled_at : (calls trace : List (SystemCall P)) (place : ℕ) (old new : SlabView (QuotaPortsView P)) →
+  settled_at : (calls trace : List (SystemCall P)) (place : ℕ) (old new : SlabView P) →
       ChangesOnlyAt place old new → ((q : ℕ) → place ≢ q → All (IsElsewhere q) trace) →
       (is_at is_kept new.places place ≡ false → pending_by place (pending_by place false calls) trace ≡ false) →
       IsSettled calls old → IsSettled (calls ++ trace) new
@@ -237,10 +237,10 @@ module _ {P : Type 0} (port_transition : P → PortCall → P → Type 0) where
           let apart = eqb-false place q e in
           pending_then q false calls trace ∙ calm_by q (pending_by q false calls) trace
           (All-weaker (IsElsewhere q) (IsCalm q) (elsewhere_calm q) trace (elsewhere q apart))
-          ∙ settled q (ap (λ (at : Option (SlabPlace (SessionView × QuotaPortsView P))). is_so is_kept at)
+          ∙ settled q (ap (λ (at : Option (SlabPlace (SlotView P))). is_so is_kept at)
           (sym (only.beside q (λ same. apart (sym same)))) ∙ none)
 
-  visit_settled : (at : Option (SlabPlace (SessionView × QuotaPortsView P))) (calls : List (SystemCall P)) (old : ServiceView P)
+  visit_settled : (at : Option (SlabPlace (SlotView P))) (calls : List (SystemCall P)) (old : ServiceView P)
       (place turns : ℕ) (trace : List (SystemCall P)) (new : ServiceView P) → slice_get old.slab.places place ≡ at →
       VisitsBy port_transition at old place turns trace new → IsSettled calls old.slab → IsSettled (calls ++ trace) new.slab
   visit_settled at calls old place turns trace new there h settled =
@@ -251,9 +251,9 @@ module _ {P : Type 0} (port_transition : P → PortCall → P → Type 0) where
           pending_by place (pending_by place false calls) trace ≡ false
       before none calm = calm_by place (pending_by place false calls) trace calm ∙ settled place none
 
-      kept : (here : Option (SlabPlace (SessionView × QuotaPortsView P))) → slice_get old.slab.places place ≡ here →
+      kept : (here : Option (SlabPlace (SlotView P))) → slice_get old.slab.places place ≡ here →
           is_so is_kept here ≡ false → is_at is_kept old.slab.places place ≡ false
-      kept here e none = ap (λ (o : Option (SlabPlace (SessionView × QuotaPortsView P))). is_so is_kept o) e ∙ none
+      kept here e none = ap (λ (o : Option (SlabPlace (SlotView P))). is_so is_kept o) e ∙ none
 
       met : (connect : Connect P) (joining : List (SystemCall P)) → slice_get old.slab.places place ≡ Some Kept →
           trace ≡ Connects place connect ∷ joining → JoinsBy port_transition connect old place turns joining new →
@@ -269,10 +269,10 @@ module _ {P : Type 0} (port_transition : P → PortCall → P → Type 0) where
       met Pending joining e asked m none =
           let still : is_at is_kept new.slab.places place ≡ true =
           ap (λ (s : ServiceView P). is_at is_kept s.slab.places place) m.2
-          ∙ ap (λ (o : Option (SlabPlace (SessionView × QuotaPortsView P))). is_so is_kept o) e in
+          ∙ ap (λ (o : Option (SlabPlace (SlotView P))). is_so is_kept o) e in
           absurd (cc)
 
-      own : (here : Option (SlabPlace (SessionView × QuotaPortsView P))) → slice_get old.slab.places place ≡ here →
+      own : (here : Option (SlabPlace (SlotView P))) → slice_get old.slab.places place ≡ here →
           VisitsBy port_transition here old place turns trace new →
           is_at is_kept new.slab.places place ≡ false → pending_by place (pending_by place false calls) trace ≡ false
       own None e v none = before (kept None e refl) (All-same (IsCalm place) trace [] v.1 (All-nil (IsCalm place)))
@@ -327,7 +327,7 @@ module _ {P : Type 0} (port_transition : P → PortCall → P → Type 0) where
           (λ q apart. All-cons (IsElsewhere q) (Accepts asks.place true) [] (differ asks.place q apart) (All-nil (IsElsewhere q)))
           (λ none.
           (let own : is_at is_kept (slice_set old.slab.places asks.place Kept) asks.place ≡ true =
-          ap (λ (o : Option (SlabPlace (SessionView × QuotaPortsView P))). is_so is_kept o)
+          ap (λ (o : Option (SlabPlace (SlotView P))). is_so is_kept o)
           (get_set old.slab.places asks.place Kept Free asks.free) in
           absurd (cc))) settled
         where
@@ -431,7 +431,7 @@ module _ {P S N C : Type 0} (port_transition : P → PortCall → P → Type 0) 
       ap (λ (l : List (SystemCall P)). pending_by place false (before ++ l)) asks.2
       ∙ mid_settled port_transition before (early ++ Accepts place came ∷ []) run next round
       (rounds_settled port_transition settings n before run rounds) place
-      (ap (λ (o : Option (SlabPlace (SessionView × QuotaPortsView P))). is_so is_kept o) asks.1) in
+      (ap (λ (o : Option (SlabPlace (SlotView P))). is_so is_kept o) asks.1) in
       let within = slice_get_within round.mid.slab.places place Free asks.1 in
       let kept = visits_places port_transition round.visits.visited round.visits.turns (polled round.woken round.orders run)
       round.visiting round.mid round.visits.takes in

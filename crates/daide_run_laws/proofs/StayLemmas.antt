@@ -11,7 +11,6 @@ use Rattle.daide_io.specs.declared.ports.Pull.{Pull}
 use Rattle.daide_io.specs.declared.ports.Put.{Put}
 use Rattle.daide_io.specs.declared.ports.Put.TheVariants.{Took}
 use Rattle.daide_io.specs.Ports.{PortCall, TurnBegins, Clock, Pulled, Offered, EvolvesBy}
-use Rattle.daide_event_loop.specs.QuotaPorts.{QuotaPortsView, Meters, EvolvesWhile}
 use Rattle.daide_sockets.specs.declared.socket.Socket.{Socket}
 use Rattle.daide_sockets.specs.Timers.{SessionTimers, StallGoesOn, FlushesInTime, BeginsInTime, PullsInTime, PutsInTime, StallsAfterPut, SetsTimers, is_got}
 use Rattle.daide_sockets.specs.Times.{StallsNext}
@@ -106,39 +105,23 @@ module _ {S : Type 0} where
 
 module _ {P S : Type 0} (port_transition : P → PortCall → P → Type 0) (timers : P → SessionTimers S)
     (keeps : PortsSetTimers port_transition timers) (side : Side) where
-  abbrev at : QuotaPortsView P → Socket S
-  at m = own (timers m.ports) side
+  abbrev at : P → Socket S
+  at ports = own (timers ports) side
 
-  metered : (call : PortCall) (a b : QuotaPortsView P) → Meters port_transition a call b →
-      SetsTimers call (timers a.ports) (timers b.ports) ⊎ (b.ports ≡ a.ports)
-  metered call a b h = by b.turns_left h.ports
-    where
-      by : (left : Option ℕ) → EvolvesWhile port_transition left a.ports call b.ports →
-          SetsTimers call (timers a.ports) (timers b.ports) ⊎ (b.ports ≡ a.ports)
-      by None k = inr k.1
-      by (Some n) k = inl (keeps a.ports b.ports call k)
-
-  one_stays : (call : PortCall) (a b : QuotaPortsView P) → Meters port_transition a call b → MovesNoByte side call →
+  one_stays : (call : PortCall) (a b : P) → port_transition a call b → MovesNoByte side call →
       held_len (at b) ≡ held_len (at a) → KeepsTimeouts (at a) (at b)
-  one_stays call a b h quiet same = ⊎_elim
-      (λ (t : SetsTimers call (timers a.ports) (timers b.ports)). call_stays side call (timers a.ports) (timers b.ports) t quiet same)
-      (λ (e : b.ports ≡ a.ports). same_timeouts (at a) (at b) (ap (λ (p : P). own (timers p) side) e))
-      (metered call a b h)
+  one_stays call a b h quiet same = call_stays side call (timers a) (timers b) (keeps a b call h) quiet same
 
-  one_fails : (call : PortCall) (a b : QuotaPortsView P) → Meters port_transition a call b →
+  one_fails : (call : PortCall) (a b : P) → port_transition a call b →
       (at a).stream.has_failed ≡ true → (at b).stream.has_failed ≡ true
-  one_fails call a b h failed = ⊎_elim
-      (λ (t : SetsTimers call (timers a.ports) (timers b.ports)).
-      ((step_stall call (timers a.ports) (timers b.ports) t side).failed failed).0)
-      (λ (e : b.ports ≡ a.ports). ap (λ (p : P). (own (timers p) side).stream.has_failed) e ∙ failed)
-      (metered call a b h)
+  one_fails call a b h failed = ((step_stall call (timers a) (timers b) (keeps a b call h) side).failed failed).0
 
-  fails_on : (calls : List PortCall) (a b : QuotaPortsView P) → EvolvesBy (Meters port_transition) a calls b →
+  fails_on : (calls : List PortCall) (a b : P) → EvolvesBy port_transition a calls b →
       (at a).stream.has_failed ≡ true → (at b).stream.has_failed ≡ true
-  fails_on [] a b h failed = ap (λ (m : QuotaPortsView P). (at m).stream.has_failed) h ∙ failed
+  fails_on [] a b h failed = ap (λ (ports : P). (at ports).stream.has_failed) h ∙ failed
   fails_on (call ∷ calls) a b h failed = fails_on calls h.0 b h.2 (one_fails call a h.0 h.1 failed)
 
-  all_stay : (calls : List PortCall) (a b : QuotaPortsView P) (h : EvolvesBy (Meters port_transition) a calls b) →
+  all_stay : (calls : List PortCall) (a b : P) (h : EvolvesBy port_transition a calls b) →
       IsQuietFor port_transition timers side calls a b h → KeepsTimeouts (at a) (at b)
   all_stay [] a b h quiet = same_timeouts (at a) (at b) (ap at h)
   all_stay (call ∷ calls) a b h quiet =
@@ -149,4 +132,4 @@ pub timeouts_stay : {P S : Type 0} (port_transition : P → PortCall → P → T
     PortsSetTimers port_transition timers → TimeoutsStay port_transition timers
 timeouts_stay port_transition timers keeps =
     λ settings trace mid late place side from quiet.
-    all_stay port_transition timers keeps side late mid place.1 from.since quiet
+    all_stay port_transition timers keeps side late mid place.ports from.since quiet

@@ -9,7 +9,6 @@ use Rattle.daide_frame.specs.declared.side.Side.{Side}
 use Rattle.daide_frame.specs.declared.side.Side.TheVariants.{Bot, Server}
 use Rattle.daide_io.specs.declared.ports.Pull.{Pull}
 use Rattle.daide_io.specs.Ports.{PortCall, TurnBegins, Clock, Pulled, Offered, EvolvesBy}
-use Rattle.daide_event_loop.specs.QuotaPorts.{QuotaPortsView, Meters, EvolvesWhile}
 use Rattle.daide_sockets.specs.declared.socket.Socket.{Socket}
 use Rattle.daide_sockets.specs.Timers.{SessionTimers, BeginsAt, KeepsTimers, PullsInTime, SetsTimers, is_got}
 use Rattle.daide_sockets.specs.Times.{IsAfter, IsStallEnd}
@@ -275,43 +274,21 @@ module _ {S : Type 0} (idle stall : Duration) where
 
   module _ {P : Type 0} (port_transition : P → PortCall → P → Type 0) (timers : P → SessionTimers S)
       (keeps : PortsSetTimers port_transition timers) where
-    -- a call is made within the quota; beyond it the ports stay
-    pub made_or_spent : (call : PortCall) (a b : QuotaPortsView P) → Meters port_transition a call b →
-        SetsTimers call (timers a.ports) (timers b.ports) ⊎ (b.ports ≡ a.ports)
-    made_or_spent call a b h = by b.turns_left refl h.ports
-      where
-        by : (left : Option ℕ) → b.turns_left ≡ left → EvolvesWhile port_transition left a.ports call b.ports →
-            SetsTimers call (timers a.ports) (timers b.ports) ⊎ (b.ports ≡ a.ports)
-        by None e k = inr k.1
-        by (Some n) e k = inl (keeps a.ports b.ports call k)
-
-    spent_timed : (a b : QuotaPortsView P) → b.ports ≡ a.ports → IsTimedNow idle stall (timers a.ports) →
-        IsTimedNow idle stall (timers b.ports)
-    spent_timed a b e k = subst (λ (p : P). IsTimedNow idle stall (timers p)) (sym e) k
-
-    pub history_timed : (calls : List PortCall) (a b : QuotaPortsView P) (h : EvolvesBy (Meters port_transition) a calls b) →
-        ClockGoesOn port_transition timers idle stall calls a b h → IsTimedNow idle stall (timers a.ports) →
-        IsTimedNow idle stall (timers b.ports)
-    history_timed [] a b h clock k = subst (λ (m : QuotaPortsView P). IsTimedNow idle stall (timers m.ports)) (sym h) k
+    pub history_timed : (calls : List PortCall) (a b : P) (h : EvolvesBy port_transition a calls b) →
+        ClockGoesOn port_transition timers idle stall calls a b h → IsTimedNow idle stall (timers a) →
+        IsTimedNow idle stall (timers b)
+    history_timed [] a b h clock k = subst (λ (ports : P). IsTimedNow idle stall (timers ports)) (sym h) k
     history_timed (TurnBegins ∷ calls) a b h clock k =
         history_timed calls h.0 b h.2 clock.1
-        (⊎_elim (λ (t : SetsTimers TurnBegins (timers a.ports) (timers h.0.ports)).
-        timed_step TurnBegins (timers a.ports) (timers h.0.ports) t k clock.0)
-        (λ (e : h.0.ports ≡ a.ports). spent_timed a h.0 e k) (made_or_spent TurnBegins a h.0 h.1))
+        (timed_step TurnBegins (timers a) (timers h.0) (keeps a h.0 TurnBegins h.1) k clock.0)
     history_timed (Clock event ∷ calls) a b h clock k =
         history_timed calls h.0 b h.2 clock
-        (⊎_elim (λ (t : SetsTimers (Clock event) (timers a.ports) (timers h.0.ports)).
-        subst (λ (s : SessionTimers S). IsTimedNow idle stall s) (sym t.1) k)
-        (λ (e : h.0.ports ≡ a.ports). spent_timed a h.0 e k) (made_or_spent (Clock event) a h.0 h.1))
+        (subst (λ (s : SessionTimers S). IsTimedNow idle stall s) (sym (keeps a h.0 (Clock event) h.1).1) k)
     history_timed (Pulled side room pull bytes ∷ calls) a b h clock k =
+        let t = keeps a h.0 (Pulled side room pull bytes) h.1 in
         history_timed calls h.0 b h.2 clock
-        (⊎_elim (λ (t : SetsTimers (Pulled side room pull bytes) (timers a.ports) (timers h.0.ports)).
-        timed_step (Pulled side room pull bytes) (timers a.ports) (timers h.0.ports) t k
-        (same_later (timers a.ports) (timers h.0.ports) k t.0.reading))
-        (λ (e : h.0.ports ≡ a.ports). spent_timed a h.0 e k) (made_or_spent (Pulled side room pull bytes) a h.0 h.1))
+        (timed_step (Pulled side room pull bytes) (timers a) (timers h.0) t k (same_later (timers a) (timers h.0) k t.0.reading))
     history_timed (Offered side bytes put ∷ calls) a b h clock k =
+        let t = keeps a h.0 (Offered side bytes put) h.1 in
         history_timed calls h.0 b h.2 clock
-        (⊎_elim (λ (t : SetsTimers (Offered side bytes put) (timers a.ports) (timers h.0.ports)).
-        timed_step (Offered side bytes put) (timers a.ports) (timers h.0.ports) t k
-        (same_later (timers a.ports) (timers h.0.ports) k t.0.reading))
-        (λ (e : h.0.ports ≡ a.ports). spent_timed a h.0 e k) (made_or_spent (Offered side bytes put) a h.0 h.1))
+        (timed_step (Offered side bytes put) (timers a) (timers h.0) t k (same_later (timers a) (timers h.0) k t.0.reading))

@@ -1,6 +1,6 @@
 -- Every place is freed: the deadline that each session of a run over sockets has while a poll may block, the visit that it
 -- has once the deadline is past, and how often its deadlines can pass. (own)
-use Rattle.std.specs.Prelude.{◌≡◌, ◌≢◌, ◌≤◌, ◌<◌, ◌⊎◌, ℕ, ◌+◌, ◌-◌, ◌++◌, ◌&&◌, ◌||◌, not, max, Bool, true, false, List, [], ◌∷◌, length}
+use Rattle.std.specs.Prelude.{◌≡◌, ◌≢◌, ◌≤◌, ◌<◌, ◌⊎◌, ℕ, ◌+◌, ◌-◌, ◌++◌, ◌||◌, not, max, Bool, true, false, List, [], ◌∷◌, length}
 use Rattle.std.specs.Prelude.{Option, Some, is_some}
 use Rattle.std.specs.Duration.{as_nanos}
 use Rattle.std.specs.Time.{instant_nanos, FitsClock}
@@ -8,7 +8,6 @@ use Rattle.std.specs.declared.time.Duration.{Duration}
 use Rattle.std.specs.declared.time.Instant.{Instant}
 use Rattle.daide_frame.specs.declared.side.Side.{Side}
 use Rattle.daide_frame.specs.Side.{same_side}
-use Rattle.daide_protocol.specs.Wires.{SessionView}
 use Rattle.daide_io.specs.ReadyQueue.{one_if, is_among, is_queued}
 use Rattle.daide_io.specs.declared.ports.Put.TheVariants.{Took}
 use Rattle.daide_io.specs.Network.{NetworkCall}
@@ -16,10 +15,9 @@ use Rattle.daide_io.specs.Ports.{PortCall, TurnBegins, Clock, Pulled, Offered, E
 use Rattle.daide_io.specs.Streams.{StreamCall}
 use Rattle.daide_io.specs.System.{SystemCall, Polls, TransitsBy}
 use Rattle.daide_io.specs.declared.system.Orders.{Orders}
-use Rattle.daide_driver.specs.Slab.{IfHeldAt}
+use Rattle.daide_driver.specs.Slab.{SlotView, IfHeldAt}
 use Rattle.daide_settings.specs.declared.settings.Settings.{Settings}
-use Rattle.daide_event_loop.specs.QuotaPorts.{QuotaPortsView, Meters}
-use Rattle.daide_event_loop.specs.Serving.{ServiceView, Round, Rounds, initial_service, fresh}
+use Rattle.daide_event_loop.specs.Serving.{ServiceView, Round, Rounds, initial_service}
 use Rattle.daide_event_loop.specs.Served.{IsServed}
 use Rattle.daide_sockets.specs.declared.socket.Socket.{Socket}
 use Rattle.daide_sockets.specs.InTime.{IsAtMost}
@@ -116,11 +114,11 @@ deliveries (Offered side bytes put ∷ calls) = deliveries calls
 module _ {P S : Type 0} (transition : P → PortCall → P → Type 0) (timers : P → SessionTimers S) where
   -- The premise about the clock: by these calls each turn of the session begins at a reading that is not before the one of
   -- the turn before. How long a turn or a pause between two takes is open.
-  abbrev pub ClockGoesOn : Duration → Duration → (calls : List PortCall) → (old new : QuotaPortsView P) →
-      EvolvesBy (Meters transition) old calls new → Type 0
+  abbrev pub ClockGoesOn : Duration → Duration → (calls : List PortCall) → (old new : P) →
+      EvolvesBy transition old calls new → Type 0
   ClockGoesOn idle stall [] old new by = Unit {0}
   ClockGoesOn idle stall (TurnBegins ∷ calls) old new by =
-      IsLater idle stall (timers old.ports).sockets.reading (timers by.0.ports).sockets.reading
+      IsLater idle stall (timers old).sockets.reading (timers by.0).sockets.reading
       × ClockGoesOn idle stall calls by.0 new by.2
   ClockGoesOn idle stall (Clock event ∷ calls) old new by = ClockGoesOn idle stall calls by.0 new by.2
   ClockGoesOn idle stall (Pulled side room pull bytes ∷ calls) old new by = ClockGoesOn idle stall calls by.0 new by.2
@@ -128,20 +126,20 @@ module _ {P S : Type 0} (transition : P → PortCall → P → Type 0) (timers :
 
   -- a session of a run that began at a reading of the clock, while the clock goes on
   pub record IsTimed (settings : Settings) (trace : List (SystemCall P)) (idle stall : Duration)
-      (place : SessionView × QuotaPortsView P) : Type 0 where
+      (place : SlotView P) : Type 0 where
     pub session : IsServed transition settings trace place
     pub start : Instant
     pub begun : IsReading idle stall (timers session.ports).sockets.reading start
-    pub clock : ClockGoesOn idle stall session.history (fresh session.ports settings.turns) place.1 session.answered
+    pub clock : ClockGoesOn idle stall session.history session.ports place.ports session.answered
 
   -- A session of a run had ports of this value, and came from there to its present value by these calls.
-  pub record CameFrom (settings : Settings) (trace : List (SystemCall P)) (mid : QuotaPortsView P) (late : List PortCall)
-      (place : SessionView × QuotaPortsView P) : Type 0 where
+  pub record CameFrom (settings : Settings) (trace : List (SystemCall P)) (mid : P) (late : List PortCall)
+      (place : SlotView P) : Type 0 where
     pub session : IsServed transition settings trace place
     pub early : List PortCall
     pub history : session.history ≡ early ++ late
-    pub before : EvolvesBy (Meters transition) (fresh session.ports settings.turns) early mid
-    pub since : EvolvesBy (Meters transition) mid late place.1
+    pub before : EvolvesBy transition session.ports early mid
+    pub since : EvolvesBy transition mid late place.ports
 
   -- ---- a poll
 
@@ -157,9 +155,9 @@ module _ {P S : Type 0} (transition : P → PortCall → P → Type 0) (timers :
     pub others : List (Bool × Option Instant)
     pub polls : PollsForPlaces network others may_block woken old.0 old.1 new.0 new.1
     pub deadlines : may_block ≡ true → (place : ℕ) → IfHeldAt run.slab.places place (λ item.
-        IsTimed settings calls idle stall item → HasDeadline idle stall old.1 polls.time (timers item.1.ports))
+        IsTimed settings calls idle stall item → HasDeadline idle stall old.1 polls.time (timers item.ports))
     pub late : (place : ℕ) → is_queued run.ready place ≡ false → IfHeldAt run.slab.places place (λ item.
-        is_past new.1.reading (session_due (timers item.1.ports).sockets) ≡ true → is_among place woken ≡ true)
+        is_past new.1.reading (session_due (timers item.ports).sockets) ≡ true → is_among place woken ≡ true)
 
   -- Each poll of a run over sockets, whose settings have both timeouts, is made by deadlines. Its sockets began with the
   -- timeouts of the settings, and a table has a deadline for each place.
@@ -178,31 +176,30 @@ module _ {P S : Type 0} (transition : P → PortCall → P → Type 0) (timers :
 
   -- By these calls no byte comes from the peer of a side or goes to it: no pull of the side returns one, a put to it takes
   -- none of some, and what is held for it stays held.
-  abbrev pub IsQuietFor : Side → (calls : List PortCall) → (old new : QuotaPortsView P) →
-      EvolvesBy (Meters transition) old calls new → Type 0
+  abbrev pub IsQuietFor : Side → (calls : List PortCall) → (old new : P) →
+      EvolvesBy transition old calls new → Type 0
   IsQuietFor side [] old new by = Unit {0}
   IsQuietFor side (call ∷ calls) old new by = MovesNoByte side call
-      × (held_len (socket_at (timers by.0.ports).sockets side) ≡ held_len (socket_at (timers old.ports).sockets side))
+      × (held_len (socket_at (timers by.0).sockets side) ≡ held_len (socket_at (timers old).sockets side))
       × IsQuietFor side calls by.0 new by.2
 
   -- Take a session of a run, from any of its calls on. While no byte comes from a side's peer or goes to it, its silence
   -- is over when it was to be over, and a stall timeout that runs expires when it was to expire, unless the wire fails.
   abbrev pub TimeoutsStay : Type 0
-  TimeoutsStay = (settings : Settings) (trace : List (SystemCall P)) (mid : QuotaPortsView P) (late : List PortCall)
-      (place : SessionView × QuotaPortsView P) (side : Side) → (from : CameFrom settings trace mid late place) →
-      IsQuietFor side late mid place.1 from.since →
-      KeepsTimeouts (socket_at (timers mid.ports).sockets side) (socket_at (timers place.1.ports).sockets side)
+  TimeoutsStay = (settings : Settings) (trace : List (SystemCall P)) (mid : P) (late : List PortCall)
+      (place : SlotView P) (side : Side) → (from : CameFrom settings trace mid late place) →
+      IsQuietFor side late mid place.ports from.since →
+      KeepsTimeouts (socket_at (timers mid).sockets side) (socket_at (timers place.ports).sockets side)
 
   -- ---- turns beyond a deadline
 
-  -- a turn within the quota began at or past the deadline that its session had
-  abbrev pub is_overdue : QuotaPortsView P → QuotaPortsView P → Bool
-  is_overdue old begun = is_some begun.turns_left
-      && is_past (timers begun.ports).sockets.reading (session_due (timers old.ports).sockets)
+  -- a turn began at or past the deadline that its session had
+  abbrev pub is_overdue : P → P → Bool
+  is_overdue old begun = is_past (timers begun).sockets.reading (session_due (timers old).sockets)
 
   -- how many turns began at or past the session's deadline, by these calls
-  abbrev pub overdue_turns : (calls : List PortCall) → (old new : QuotaPortsView P) →
-      EvolvesBy (Meters transition) old calls new → ℕ
+  abbrev pub overdue_turns : (calls : List PortCall) → (old new : P) →
+      EvolvesBy transition old calls new → ℕ
   overdue_turns [] old new by = 0
   overdue_turns (TurnBegins ∷ calls) old new by = one_if (is_overdue old by.0) + overdue_turns calls by.0 new by.2
   overdue_turns (Clock event ∷ calls) old new by = overdue_turns calls by.0 new by.2
@@ -212,10 +209,10 @@ module _ {P S : Type 0} (transition : P → PortCall → P → Type 0) (timers :
   -- Take a session of a run, from any of its calls on. Each turn that begins at or past its deadline takes one of the
   -- timeouts that are left, and each pull that returns bytes gives back at most one.
   abbrev pub DeadlinesPassSeldom : {N C : Type 0} → (N → NetworkCall C → N → Type 0) → Type 0
-  DeadlinesPassSeldom {N} network = (settings : Settings) (trace : List (SystemCall P)) (mid : QuotaPortsView P)
-      (late : List PortCall) (place : SessionView × QuotaPortsView P) (idle stall : Duration) (begun last : RunState N S) →
+  DeadlinesPassSeldom {N} network = (settings : Settings) (trace : List (SystemCall P)) (mid : P)
+      (late : List PortCall) (place : SlotView P) (idle stall : Duration) (begun last : RunState N S) →
       (from : CameFrom settings trace mid late place) → TransitsBy (Schedules network timers) begun trace last →
-      ClockGoesOn idle stall late mid place.1 from.since →
-      (overdue_turns late mid place.1 from.since + timeouts_left (timers place.1.ports)
-      ≤ timeouts_left (timers mid.ports) + deliveries late)
-      × (timeouts_left (timers mid.ports) ≤ 5)
+      ClockGoesOn idle stall late mid place.ports from.since →
+      (overdue_turns late mid place.ports from.since + timeouts_left (timers place.ports)
+      ≤ timeouts_left (timers mid) + deliveries late)
+      × (timeouts_left (timers mid) ≤ 5)

@@ -12,9 +12,8 @@ use Rattle.daide_io.specs.System.{SystemCall, Polls, TransitsBy}
 use Rattle.daide_io.specs.declared.system.Orders.{Orders}
 use Rattle.daide_driver.specs.declared.place.SlabPlace.{SlabPlace}
 use Rattle.daide_driver.specs.declared.place.SlabPlace.TheVariants.{Free}
-use Rattle.daide_driver.specs.Slab.{IfHeldAt, IsAt}
+use Rattle.daide_driver.specs.Slab.{SlotView, IfHeldAt, IsAt}
 use Rattle.daide_settings.specs.declared.settings.Settings.{Settings}
-use Rattle.daide_event_loop.specs.QuotaPorts.{QuotaPortsView}
 use Rattle.daide_event_loop.specs.Serving.{ServiceView, Round, Rounds, initial_service, have_all_come}
 use Rattle.daide_buffered_io.specs.Streams.{stream_of}
 use Rattle.daide_sockets.specs.declared.socket.Socket.{Socket}
@@ -46,10 +45,10 @@ pub record Sleeps {S : Type 0} (table : Table) (time : Option Duration) (place :
 
 -- The network is polled once, for the time of a poll that watches others beside the places. Each session sleeps.
 pub record PollsAsleep {P S N C : Type 0} (transition : N → NetworkCall C → N → Type 0) (view : P → SessionSockets S)
-    (places : List (SlabPlace (SessionView × QuotaPortsView P))) (woken : List ℕ) (old new : N × Table) : Type 0 where
+    (places : List (SlabPlace (SlotView P))) (woken : List ℕ) (old new : N × Table) : Type 0 where
   pub others : List (Bool × Option Instant)
   pub polls : PollsForPlaces transition others true woken old.0 old.1 new.0 new.1
-  pub asleep : (place : ℕ) → IfHeldAt places place (λ item. Sleeps old.1 polls.time place item.0 (view item.1.ports))
+  pub asleep : (place : ℕ) → IfHeldAt places place (λ item. Sleeps old.1 polls.time place item.session (view item.ports))
 
 -- Each poll of a run over sockets that may block polls asleep. A table has a deadline for each place. `view` is the content
 -- of ports.

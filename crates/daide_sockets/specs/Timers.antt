@@ -1,5 +1,5 @@
 -- The timers of a session: when its timeouts start and expire, by the calls of its ports. (own)
-use Rattle.std.specs.Prelude.{◌≡◌, ◌≢◌, ◌⊎◌, ℕ, ◌+◌, ◌<◌, nat_lt, Bool, true, false, List, length, Option, Some, None}
+use Rattle.std.specs.Prelude.{◌≡◌, ◌≢◌, ◌⊎◌, ◌||◌, ℕ, ◌+◌, ◌<◌, nat_lt, Bool, true, false, List, length, Option, Some, None}
 use Rattle.std.specs.declared.time.Duration.{Duration}
 use Rattle.std.specs.declared.time.Instant.{Instant}
 use Rattle.daide_io.specs.declared.ports.ClockEvent.{ClockEvent}
@@ -139,8 +139,8 @@ pub record BeginsAt {S : Type 0} (start : Option Instant) (times : Option Durati
 
 -- ---- the clock
 
--- What the clock reports: a stop in the turn that an operator's request begins, and otherwise whether the deadline of the
--- initial message passed when the turn began.
+-- What the clock reports: a stop if the caller or an operator stops the session in this turn, and otherwise whether the
+-- deadline of the initial message passed when the turn began.
 abbrev pub clock_event : Bool → Bool → ClockEvent
 clock_event true im_timer_expired = StopIsRequested
 clock_event false true = ImTimeIsOver
@@ -157,14 +157,16 @@ pub record SameClock {S : Type 0} (old new : SessionTimers S) : Type 0 where
   pub stops : new.stops ≡ old.stops
 
 -- What a call of a session's ports does to its timers. The deadline of the initial message expires once: in the first turn
--- that begins at it or after it. The clock reports that, or a stop, and changes no timer: a stop ends none.
+-- that begins at it or after it. The clock reports that, or a stop, and changes no timer: a stop ends none. It reports a
+-- stop, too, if the caller stops the session (`is_spent`).
 abbrev pub SetsTimers : {S : Type 0} → PortCall → SessionTimers S → SessionTimers S → Type 0
 SetsTimers TurnBegins old new = (new.idle_time ≡ old.idle_time)
     × (new.im_timer_expired ≡ is_past new.sockets.reading old.sockets.im_due)
     × (new.sockets.im_due ≡ due_after new.sockets.reading old.sockets.im_due)
     × BeginsInTime new.sockets.reading old.sockets.bot new.sockets.bot
     × BeginsInTime new.sockets.reading old.sockets.server new.sockets.server
-SetsTimers (Clock event) old new = (event ≡ clock_event old.stops old.im_timer_expired) × (new ≡ old)
+SetsTimers (Clock event) old new =
+    ((is_spent : Bool) × (event ≡ clock_event (is_spent || old.stops) old.im_timer_expired)) × (new ≡ old)
 SetsTimers (Pulled side room pull bytes) old new = SameClock old new
     × PullsInTime old.sockets.reading old.idle_time pull (stream_of (both_sockets old) side) (stream_of (both_sockets new) side)
     × FlushesInTime old.sockets.reading (stream_of (swapped_sockets old) side) (stream_of (swapped_sockets new) side)

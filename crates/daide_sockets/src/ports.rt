@@ -189,8 +189,8 @@ fn put_or_flush_peer<S: Duplex + Drop>(
 /// stays so, but for a write that its stream did not take whole (`transition`, `OnlyPuts`). So while a run waits, bytes are
 /// held only after such a write, or before a poll first reported the socket as writable.
 ///
-/// The clock reports a stop in the turn that an operator's request begins, and otherwise the expiry of the IM timer
-/// (`clock`: `answer`). A stop ends the session, so nothing is read after it.
+/// The clock reports a stop if the caller stops the session, and in the turn that an operator's request begins; otherwise
+/// the expiry of the IM timer (`clock`: `answer`). A stop ends the session, so nothing is read after it.
 ///
 /// The timeouts start and expire by the reading of the turn (`transition`, `SetsTimers`). A peer whose stall timeout is over
 /// when a turn begins is given up: its writes fail. It starts when bytes wait for the peer, and starts again only if the peer
@@ -580,14 +580,15 @@ impl<S: Duplex + Drop> Ports for SocketPorts<'_, S> {
         }
     }
 
-    fn clock(&mut self) -> ClockEvent
+    fn clock(&mut self, is_spent: bool) -> ClockEvent
+        ensures stops { is_spent ≡ true → result ≡ ClockEvent.StopIsRequested }
         ensures transition { Transfers S.to_give S.taken (self.old.bot.stream, self.old.server.stream) (Popped result)
             (self.new.bot.stream, self.new.server.stream)
             × Settles S.calls (Popped result) (self.old.bot, self.old.server) (self.new.bot, self.new.server)
             × SetsTimers (Popped result) (timers_of self.old) (timers_of self.new) }
-        ensures answer { result ≡ clock_event self.old.stops self.old.im_timer_expired }
+        ensures answer { result ≡ clock_event (is_spent || self.old.stops) self.old.im_timer_expired }
         ensures same { self.new ≡ self.old }
     {
-        clock_event(self.stops, self.im_timer_expired)
+        clock_event(is_spent || self.stops, self.im_timer_expired)
     }
 }

@@ -3,7 +3,7 @@
 //! Tests read the record. If memory for it is refused, the ports still follow their script, and record nothing from
 //! then on.
 
-ghost use Rattle.std.specs.Prelude.{◌≡◌, [], ◌∷◌, ◌++◌, ◌≤◌, length, Some, Ok, IfSome, Option, Vec, map, option_map};
+ghost use Rattle.std.specs.Prelude.{◌≡◌, [], ◌∷◌, ◌++◌, ◌≤◌, length, Some, Ok, IfSome, Option, Vec, map, option_map, true};
 ghost use Rattle.daide_io.specs.Ports.{AppendsTo, TurnBegins, IsPullWithin, IsPutWithin, pulled_len};
 ghost use Rattle.daide_test_support.specs.MemoryPorts.{answer_stored, answers_stored};
 ghost use Rattle.daide_test_support.specs.declared.memory_ports.Call.{Call};
@@ -95,11 +95,14 @@ fn with_call<A: Allocator>(
     }
 }
 
-/// Returns what the clock reports, by the queries before a stop and those before the IM timer expires.
-fn clock_event(stops_after: Option<u64>, quiet: u64) -> ClockEvent {
-    match (stops_after, quiet) {
-        (Some(0), _) => ClockEvent::StopIsRequested,
-        (_, 0) => ClockEvent::ImTimeIsOver,
+/// Returns what the clock reports, by whether the turns are spent, the queries before a stop and those before the IM timer
+/// expires.
+fn clock_event(is_spent: bool, stops_after: Option<u64>, quiet: u64) -> ClockEvent
+    ensures stops { is_spent ≡ true → result ≡ ClockEvent.StopIsRequested }
+{
+    match (is_spent, stops_after, quiet) {
+        (true, _, _) | (_, Some(0), _) => ClockEvent::StopIsRequested,
+        (_, _, 0) => ClockEvent::ImTimeIsOver,
         _ => ClockEvent::NoEvent,
     }
 }
@@ -244,8 +247,8 @@ impl<'a, A: Allocator + Copy> Ports for MemoryPorts<'a, A> {
         put
     }
 
-    fn clock(&mut self) -> ClockEvent {
-        let event = clock_event(self.stops_after, self.quiet);
+    fn clock(&mut self, is_spent: bool) -> ClockEvent {
+        let event = clock_event(is_spent, self.stops_after, self.quiet);
         self.stops_after = self.stops_after.and_then(|queries| queries.checked_sub(1));
         self.quiet = self.quiet.saturating_sub(1);
         let calls = self.calls.take();

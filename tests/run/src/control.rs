@@ -491,7 +491,7 @@ fn turn_of<'w, 'n>(
 ) -> Found {
     let is_woken = ready.next(true) == Some(0);
     sockets.begin_turn(0, ports);
-    let event = ports.clock();
+    let event = ports.clock(false);
     let bot = ports.pull(Side::Bot, &mut [0; 8]);
     (is_woken, event, bot, ports.pull(Side::Server, &mut [0; 8]))
 }

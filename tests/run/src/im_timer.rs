@@ -23,14 +23,14 @@ fn idle_ports(pool: &Pool) -> WirePorts<'_> {
 /// Begins a turn, and returns the results of two queries of the clock in it.
 fn events_in_turn(ports: &mut WirePorts<'_>, table: &mut SocketTable) -> Events {
     ports.begin_turn(0, table);
-    (ports.clock(), ports.clock())
+    (ports.clock(false), ports.clock(false))
 }
 
 /// Returns the results of queries of the clock before and in two turns, where the deadline is past.
 fn told_of(pool: &Pool, table: &mut SocketTable) -> (ClockEvent, Events, Events) {
     let now = table.now();
     let mut ports = idle_ports(pool).of_session(1, now, now, (None, None));
-    let before = ports.clock();
+    let before = ports.clock(false);
     let first = events_in_turn(&mut ports, table);
     (before, first, events_in_turn(&mut ports, table))
 }

@@ -202,8 +202,12 @@ impl Ports for Breaking {
         self.ports.put(side, &bytes[..1])
     }
 
-    fn clock(&mut self) -> ClockEvent {
-        ClockEvent::NoEvent
+    fn clock(&mut self, is_spent: bool) -> ClockEvent {
+        if is_spent {
+            ClockEvent::StopIsRequested
+        } else {
+            ClockEvent::NoEvent
+        }
     }
 }
 

@@ -88,7 +88,7 @@ const CLOCKS: &[ClockRow] = &[
 /// Checks that the clock reports these events, and that the ports record each.
 fn assert_events(ports: &mut MemoryPorts<'_>, events: &[ClockEvent]) -> Result<(), Fail> {
     for event in events {
-        same(&ports.clock(), event, &events)?;
+        same(&ports.clock(false), event, &events)?;
         let last = ports.calls().and_then(|calls| calls.last());
         holds(
             matches!(last, Some(Call::Clock(recorded)) if recorded == event),

@@ -127,8 +127,8 @@ impl Ports for Feeding {
         self.ports.put(side, bytes)
     }
 
-    fn clock(&mut self) -> ClockEvent {
-        self.ports.clock()
+    fn clock(&mut self, is_spent: bool) -> ClockEvent {
+        self.ports.clock(is_spent)
     }
 }
 
@@ -234,7 +234,7 @@ fn add_to_full(alloc: Global, hub: &mut Hub<Feeding>, seat: Seat) -> Result<(), 
     match hub.add(ports_of(alloc, seat)?) {
         Ok(_) => Err(Fail::new("a full hub")),
         Err((fault, mut ports)) => {
-            let is_same = ports.clock() == ClockEvent::ImTimeIsOver;
+            let is_same = ports.clock(false) == ClockEvent::ImTimeIsOver;
             holds(fault == AddFault::Full && is_same, "the very ports")
         }
     }
@@ -496,7 +496,7 @@ impl Growths {
             }
             Err((fault, mut ports)) => {
                 self.no_session = true;
-                let is_same = ports.clock() == ClockEvent::ImTimeIsOver;
+                let is_same = ports.clock(false) == ClockEvent::ImTimeIsOver;
                 holds(
                     fault == AddFault::Memory && hub.count() == 0 && is_same,
                     "refused",

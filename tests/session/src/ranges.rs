@@ -48,7 +48,7 @@ fn assert_full(alloc: Global, hub: &mut Hub<MemoryPorts<'static>>) -> Result<(),
     match hub.add(MemoryPorts::new(alloc, QUIET, QUIET, 0)) {
         Ok(_) => Err(Fail::new("a full hub")),
         Err((fault, mut ports)) => {
-            let is_same = ports.clock() == ClockEvent::ImTimeIsOver;
+            let is_same = ports.clock(false) == ClockEvent::ImTimeIsOver;
             holds(fault == AddFault::Full && is_same, "the very ports")
         }
     }

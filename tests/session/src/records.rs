@@ -204,7 +204,7 @@ fn ports_without_a_record_return_the_same(rt: HostRuntime) -> Result<(), Fail> {
         let pull = inner.pull(Side::Bot, &mut one);
         same(&ports.pull(Side::Bot, &mut other), &pull, &"the answer")?;
         holds(one == other, "the bytes")?;
-        same(&ports.clock(), &inner.clock(), &"the clock")?;
+        same(&ports.clock(false), &inner.clock(false), &"the clock")?;
     }
     holds(!ports.has_unreported_end(), "no end")?;
     holds(ports.record().is_none(), "no record")

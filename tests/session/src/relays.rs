@@ -434,8 +434,8 @@ impl<'a, A: Allocator + Copy> Ports for Watching<'a, A> {
         put
     }
 
-    fn clock(&mut self) -> ClockEvent {
-        self.ports.clock()
+    fn clock(&mut self, is_spent: bool) -> ClockEvent {
+        self.ports.clock(is_spent)
     }
 }
 

@@ -147,7 +147,7 @@ const RUNS: &[(Scene, Limits, &[Event])] = &[
             Event::Retired(0),
         ],
     ),
-    // a silent bot: its fourth turn exceeds the quota, and the system does not begin it
+    // a silent bot: its fourth turn exceeds the quota, and stops it; one turn more finds nothing to do
     (
         Scene {
             bot: QUIET,
@@ -168,6 +168,8 @@ const RUNS: &[(Scene, Limits, &[Event])] = &[
             Event::Turn(0),
             Event::Rests(0),
             Event::Waits,
+            Event::Turn(0),
+            Event::Turn(0),
             Event::Told(Notice::TurnsSpent),
             Event::Retired(0),
         ],
@@ -193,6 +195,8 @@ const RUNS: &[(Scene, Limits, &[Event])] = &[
             Event::Turn(0),
             Event::Rests(0),
             Event::Waits,
+            Event::Turn(0),
+            Event::Turn(0),
             Event::Told(Notice::TurnsSpent),
             Event::Retired(0),
         ],
@@ -215,6 +219,8 @@ const RUNS: &[(Scene, Limits, &[Event])] = &[
             Event::Turn(0),
             Event::Rests(0),
             Event::Waits,
+            Event::Turn(0),
+            Event::Turn(0),
             Event::Told(Notice::TurnsSpent),
             Event::Retired(0),
         ],
@@ -272,6 +278,8 @@ const SPENT: &[Event] = &[
     Event::Turn(0),
     Event::Rests(0),
     Event::Waits,
+    Event::Turn(0),
+    Event::Turn(0),
     Event::Told(Notice::TurnsSpent),
     Event::Retired(0),
 ];
@@ -282,19 +290,27 @@ const OPENING: Scene = Scene {
     ..ENDING
 };
 
-/// Checks the calls, and that the server was sent only the IM.
+/// Checks the calls, and that the server was sent the IM and then an FM, and the bot an FM.
 fn assert_spent(alloc: Global, stage: &Harness) -> Result<(), Fail> {
     holds(stage.events.as_slice() == SPENT, "the events")?;
     match stage.retired.first() {
-        Some(ports) => assert_sent(alloc, ports.calls(), Server, "00 00 00 04 00 01 DA 10"),
+        Some(ports) => {
+            assert_sent(alloc, ports.calls(), Bot, "03 00 00 00")?;
+            assert_sent(
+                alloc,
+                ports.calls(),
+                Server,
+                "00 00 00 04 00 01 DA 10 03 00 00 00",
+            )
+        }
         None => Err(Fail::new("nobody was retired")),
     }
 }
 
-/// A bot's IM is read in two turns and written in two. When its turns are spent, an FM is queued for the server. In the
-/// next turn of the same visit the write fails, so the server is sent only the IM.
+/// A bot's IM is read in two turns and written in two, and the fifth finds nothing to do. Then its turns are spent. The next
+/// turn stops the session as an operator does, so an FM is queued for each side, and both are sent in the same turn.
 #[test]
-fn spent_turns_end_an_open_wire(rt: HostRuntime) -> Result<(), Fail> {
+fn spent_turns_end_a_session_by_the_protocol(rt: HostRuntime) -> Result<(), Fail> {
     let stage = stage_after(rt.alloc(), OPENING, (1, 1, 5))?;
     assert_spent(rt.alloc(), &stage)
 }
@@ -305,8 +321,8 @@ const WRONG_AND_FULL: Script<'static> = Script {
     puts: &[Acceptance::Takes(0); 9],
 };
 
-/// A run of one bot | its limits | why its session ended | its counts | the field of its fault. In the last one an EM stays queued until the
-/// turns are spent.
+/// A run of one bot | its limits | why its session ended | its counts | the field of its fault. In the last one an EM stays queued for
+/// longer than the turns last: a session that is over spends none.
 const ENDS_OF_RUNS: &[(Scene, Limits, Cause, [u64; 4], Option<FaultField>)] = &[
     (
         ENDING,

@@ -12,6 +12,7 @@ use daide_io::ports::{ClockEvent, Ports, Pull, Put};
 use daide_io::ready_queue::ReadyQueue;
 use daide_io::system::{Cause, Connect, Notice, Orders, SessionEnd, SessionStatus, System};
 use daide_protocol::config::Config;
+use daide_protocol::ending::Ending;
 use daide_session::session::Session;
 use daide_settings::Settings;
 use daide_sockets::ports::SocketPorts;
@@ -36,6 +37,8 @@ pub struct ObservedPorts<'w, 'n> {
     has_expired: bool,
     /// Whether it was told that the operator stops the session.
     is_stopped: bool,
+    /// The turns that began while the machine was not over.
+    turns: u64,
     /// The readings from which the bot and the server are silent.
     silent_at: (u64, u64),
     rules: RunTimes,
@@ -291,10 +294,14 @@ impl Ports for ObservedPorts<'_, '_> {
         put
     }
 
-    fn clock(&mut self) -> ClockEvent {
-        let event = self.ports.clock();
+    fn clock(&mut self, is_spent: bool) -> ClockEvent {
+        let event = self.ports.clock(is_spent);
         let is_stop_due = !self.is_stopped && ends_sessions(self.world);
-        if is_stop_due != (event == ClockEvent::StopIsRequested) {
+        let is_late = self.machine.ending().is_none() && self.turns > self.rules.turns;
+        if is_spent != is_late {
+            fail(self.world, "the turns are not counted", self.bot);
+        }
+        if (is_spent || is_stop_due) != (event == ClockEvent::StopIsRequested) {
             fail(self.world, "a stop is not told once", self.bot);
         }
         // The timer expires once, also in the turn of a stop, which is reported in its place.
@@ -302,11 +309,13 @@ impl Ports for ObservedPorts<'_, '_> {
         self.has_expired = self.has_expired || is_due;
         if is_stop_due {
             self.is_stopped = true;
-            self.machine.stop();
-            self.answer();
             if let Ok(mut state) = self.world.state.try_borrow_mut() {
                 state.tally.stopped = state.tally.stopped.saturating_add(1);
             }
+        }
+        if is_spent || is_stop_due {
+            self.machine.stop();
+            self.answer();
             return event;
         }
         let is_expired = event == ClockEvent::ImTimeIsOver;
@@ -429,7 +438,7 @@ pub struct ObservedSockets<'w, 'n> {
     has_stopped: bool,
     /// The number of retired sessions to which a stop was reported before.
     stopped_and_retired: u64,
-    /// Whether the turns of the session that is retired next are spent: then bytes for it may be left.
+    /// Whether the turns of the session that is retired next are spent.
     is_spent: bool,
 }
 
@@ -471,7 +480,7 @@ fn join(state: &mut State, number: u32, bot: usize, server: usize) -> u64 {
 }
 
 /// Begins to close a wire. Checks that the ports took all that the machine answered, if they had to.
-fn part(state: &mut State, index: usize, is_whole: bool) {
+fn part(state: &mut State, index: usize) {
     let (reading, stall, polls) = (state.reading, state.rules.stall, state.polls);
     let mut is_right = true;
     if let Some(wire) = state.wire(index) {
@@ -480,7 +489,7 @@ fn part(state: &mut State, index: usize, is_whole: bool) {
         }
         wire.was_stalled = wire.is_stalled(reading, stall);
         let is_excused = wire.told_failure || wire.was_stalled;
-        is_right = !is_whole || is_excused || wire.accepted == wire.answered;
+        is_right = is_excused || wire.accepted == wire.answered;
         let left = wire.accepted.saturating_sub(wire.written);
         wire.expected.truncate(usize::try_from(left).unwrap_or(0));
         wire.place = Place::Closing;
@@ -579,6 +588,7 @@ impl<'w, 'n> ObservedSockets<'w, 'n> {
             im_at: began_at.saturating_add(rules.im),
             has_expired: false,
             is_stopped: false,
+            turns: 0,
             silent_at: (silent_at, silent_at),
             rules,
         };
@@ -588,19 +598,20 @@ impl<'w, 'n> ObservedSockets<'w, 'n> {
 
     /// Checks the end of a session.
     fn check_end(&self, ports: &ObservedPorts<'w, 'n>, end: SessionEnd) {
-        let is_right = match end.cause {
-            Cause::TurnsSpent => self.is_spent,
-            Cause::Session(ending) => {
-                ports.machine.ending() == Some(ending) && ports.machine.account() == end.account
-            }
+        // The machine of a session whose turns were spent was stopped.
+        let ending = match end.cause {
+            Cause::TurnsSpent => Ending::Stopped,
+            Cause::Session(ending) => ending,
         };
-        let is_whole = !self.is_spent;
+        let is_right = (end.cause == Cause::TurnsSpent) == self.is_spent
+            && ports.machine.ending() == Some(ending)
+            && ports.machine.account() == end.account;
         if let Ok(mut state) = self.world.state.try_borrow_mut() {
             if !is_right {
                 state.fail("a session ended for another cause", ports.bot);
             }
-            part(&mut state, ports.bot, is_whole);
-            part(&mut state, ports.server, is_whole);
+            part(&mut state, ports.bot);
+            part(&mut state, ports.server);
         }
     }
 
@@ -642,6 +653,9 @@ impl<'w, 'n> System<ObservedPorts<'w, 'n>> for ObservedSockets<'w, 'n> {
 
     fn begin_turn(&mut self, place: usize, ports: &mut ObservedPorts<'w, 'n>) {
         self.sockets.begin_turn(place, &mut ports.ports);
+        if ports.machine.ending().is_none() {
+            ports.turns = ports.turns.saturating_add(1);
+        }
         if let Ok(mut state) = self.world.state.try_borrow_mut() {
             for side in [ports.bot, ports.server] {
                 if let Some(wire) = state.wire(side) {
@@ -705,6 +719,7 @@ impl<'w, 'n> System<ObservedPorts<'w, 'n>> for ObservedSockets<'w, 'n> {
             im_at: _,
             has_expired: _,
             is_stopped,
+            turns: _,
             silent_at: _,
             rules: _,
         } = ports;

@@ -59,6 +59,7 @@ fn rules_of(settings: &Settings) -> RunTimes {
         stall: millis(settings.stall_seconds),
         max_sessions: settings.max_sessions,
         sessions: settings.sessions,
+        turns: settings.turns,
     }
 }
 

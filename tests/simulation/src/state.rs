@@ -25,7 +25,7 @@ const MOST_WAKES: usize = 20_000;
 /// The number of places that an entry of a list of times has for a wire.
 const PLACES: u64 = 65_536;
 
-/// The times of a run, in milliseconds, and its number of sessions at once and in all.
+/// The times of a run, in milliseconds, its number of sessions at once and in all, and the turns of a session.
 #[derive(Clone, Copy)]
 pub struct RunTimes {
     pub im: u64,
@@ -33,6 +33,7 @@ pub struct RunTimes {
     pub stall: u64,
     pub max_sessions: usize,
     pub sessions: u32,
+    pub turns: u64,
 }
 
 /// The first difference from what has to be.

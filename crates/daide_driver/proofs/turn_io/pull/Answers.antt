@@ -2,6 +2,7 @@ use Rattle.std.proofs.Common.{◌≡◌, ℕ, refl, ap, ◌∙◌, rules, arith}
 use Rattle.std.specs.Prelude.{min}
 use Rattle.daide_protocol.specs.Wires.{room_of}
 use Rattle.daide_reader.proofs.ReadingLemmas.{raised_none}
+use Rattle.daide_driver.specs.Meter.{Moving}
 use Rattle.daide_driver.specs.Totals.{Working}
 use Rattle.daide_driver.specs.Turn.{Pulls}
 use Rattle.daide_driver.proofs.Stretches.{carries_nothing}
@@ -12,9 +13,13 @@ use Rattle.daide_driver.proofs.turn_io.pull.Goals as goal
 pub returns-then-room-eq0-clause-pulls : goal.returns-then-room-eq0-clause-pulls
 returns-then-room-eq0-clause-pulls g c =
     let now = c.args.session.now in
-    carries_nothing g.P.Ports.transition (Working (Pulls c.args.side)) now now c.args.ports.now (
-      no_pull c.args.side c.room-room.result now c.room-room.ensures.missing c.if-room-eq0.true,
-      λ side. paid_same side now now refl refl,
+    let moved = c.args.moved.now in
+    carries_nothing g.P.Ports.transition (Moving moved moved (Working (Pulls c.args.side))) now now c.args.ports.now (
+      (
+        no_pull c.args.side c.room-room.result now c.room-room.ensures.missing c.if-room-eq0.true,
+        λ side. paid_same side now now refl refl,
+      ),
+      refl,
     )
 
 pub returns-then-room-eq0-clause-asked : goal.returns-then-room-eq0-clause-asked

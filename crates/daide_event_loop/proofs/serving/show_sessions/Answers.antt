@@ -10,8 +10,8 @@ loop-place-preserved g c =
     let i = c.loop-place.place in
     elim c.if-has.branch [
       | then-has w ↦ rw (add-one, w.system-is)
-          (shown go c.args.system.now c.loop-place.system w.show.new.self places i w.session.result.now w.ports-ports.result.now
-          w.ports.result.now w.bytes.result w.session_status-status.result (sym c.has.ensures ∙ w.if-has.true) w.session.ensures
-          w.ports-ports.ensures w.ports.ensures w.bytes.ensures w.session_status-status.ensures c.loop-place.invariant w.show.ensures)
+          (shown go c.args.system.now c.loop-place.system w.show.new.self places i w.session.result.now w.ports.result.now
+          w.meter.result w.session_status-status.result (sym c.has.ensures ∙ w.if-has.true) w.session.ensures
+          w.ports.ensures w.meter.ensures w.session_status-status.ensures c.loop-place.invariant w.show.ensures)
       | else-has w ↦ rw (add-one, w.system-is, show_none places i (sym c.has.ensures ∙ w.if-has.false)) c.loop-place.invariant
     ]

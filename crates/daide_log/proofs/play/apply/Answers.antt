@@ -32,7 +32,7 @@ returns-in-ImTimerLine-clause-moves g c = λ bytes.
     (moves_noted c.args.session.now c.im_timeout.new.self (ImTimerExpired ∷ []) Bot c.im_timeout.result
     (λ e. timer_silent c.args.session.now c.im_timeout.new.self c.im_timeout.result goes e)
     (λ some. timer_made c.args.session.now c.im_timeout.new.self c.im_timeout.result
-    (c.header-frame_bytes.ensures.tied (idle_free c.args.session.now Bot c.requires.idle)) goes c.im_timeout.ensures.holds some)))
+    (c.header-held.ensures.tied (idle_free c.args.session.now Bot c.requires.idle)) goes c.im_timeout.ensures.holds some)))
 
 pub returns-in-ImTimerLine-clause-limits : goal.returns-in-ImTimerLine-clause-limits
 returns-in-ImTimerLine-clause-limits g c =

@@ -57,7 +57,7 @@ returns-clause-moved_down g c =
       place.session,
       place_read (λ p. (p.session, p.ports)) limits s.max s.places.items c.args.i place
           c.args.self.now c.self.view_is c.requires c.remove-slot.ensures.value
-          ∙ ap (λ ports. Some (place.session, ports)) (sym c.into_removed.ensures.ports),
+          ∙ ap (λ ports. Some (place.session, ports)) (sym c.from_closed.ensures.ports),
       ap (λ p. is_closed p.session) (sym same) ∙ sym c.is_closed.ensures ∙ c.if-not-is_closed.false,
       rw c.remove-slot.ensures.items
           (place_removed (λ p. (p.session, p.ports)) limits s.max s.places.items c.args.i
@@ -65,8 +65,8 @@ returns-clause-moved_down g c =
     )
 
 -- the session is closed
-pub into_removed-requires : goal.into_removed-requires
-into_removed-requires g c =
+pub from_closed-requires : goal.from_closed-requires
+from_closed-requires g c =
     let s = c.self.inside in
     let place = c.remove-slot.result in
     let inside = place_inside (λ p. (p.session, p.ports)) (limits_with s.limits.config (words_of s.words)) s.max s.places.items
@@ -81,6 +81,6 @@ returns-clause-reported g c =
     let place = c.remove-slot.result in
     let read = place_read (λ p. (p.session, p.ports)) (limits_with s.limits.config (words_of s.words)) s.max s.places.items
     c.args.i place c.args.self.now c.self.view_is c.requires c.remove-slot.ensures.value in
-    subst (λ found. IfSome found (λ (p : SessionView × g.row.P.Denot). IsReportedOf p.0 c.into_removed.result.account
-    c.into_removed.result.ending c.into_removed.result.fault_field))
-    (sym read) c.into_removed.ensures.reported
+    subst (λ found. IfSome found (λ (p : SessionView × g.row.P.Denot). IsReportedOf p.0 c.from_closed.result.account
+    c.from_closed.result.ending c.from_closed.result.fault_field))
+    (sym read) c.from_closed.ensures.reported

@@ -1,5 +1,7 @@
-use Rattle.std.proofs.Common.{arith}
+use Rattle.std.proofs.Common.{ap, ◌∙◌, arith}
+use Rattle.daide_driver.specs.declared.meter.Meter.{Meter}
 use Rattle.daide_driver.specs.declared.place.SlabPlace.TheVariants.{Kept, Held}
+use Rattle.daide_driver.specs.Slab.{with_place}
 use Rattle.daide_driver.proofs.SlabLemmas.{item_kept, next_kept, place_in, place_set}
 use Rattle.daide_driver.proofs.slab.Slab.open.Goals as goal
 
@@ -10,7 +12,7 @@ index_mut-requires g c =
 pub invariant_of-self : goal.invariant_of-self
 invariant_of-self g c =
     let s = c.self.inside in
-    next_kept s.places.items c.args.place s.next Kept (Held (record { session = c.in-Ok.session; ports = c.args.ports }))
+    next_kept s.places.items c.args.place s.next Kept (Held (record { session = c.in-Ok.session; ports = c.args.ports; meter = c.new-meter.result }))
     (item_kept _ _ _ _ c.self.view_is c.args.place c.requires)
     (λ e. cc) (λ e. cc) c.self.invariant
 
@@ -20,5 +22,7 @@ returns-clause-opens g c =
       c.in-Ok.session,
       rw (← c.self.view_is) c.in-Ok.ensures.opening,
       place_set _ _ _ _ c.self.view_is c.args.place
-          (Held (record { session = c.in-Ok.session; ports = c.args.ports })),
+          (Held (record { session = c.in-Ok.session; ports = c.args.ports; meter = c.new-meter.result }))
+          ∙ ap (λ (meter : Meter). with_place c.args.self.now c.args.place
+          (Held (record { session = c.in-Ok.session; ports = c.args.ports; meter = meter }))) c.new-meter.ensures,
     )

@@ -1,6 +1,6 @@
 use Rattle.std.proofs.Common.{refl, sym, ap, ◌∙◌, arith}
 use Rattle.daide_driver.specs.declared.place.SlabPlace.TheVariants.{Held}
-use Rattle.daide_driver.specs.Slab.{is_held, with_ports_in}
+use Rattle.daide_driver.specs.Slab.{SlotView, is_held, with_ports_in}
 use Rattle.daide_driver.proofs.SlabLemmas.{held_at, is_there, item_held, next_kept, place_set, same_held, within}
 use Rattle.daide_driver.proofs.slab.Slab.ports_mut.Goals as goal
 
@@ -18,7 +18,7 @@ pub invariant_of-self-lent : goal.invariant_of-self-lent
 invariant_of-self-lent g c w =
     let s = c.self.inside in
     let slot = c.item_mut-lent.result.now in
-    next_kept s.places.items c.args.place s.next (Held slot) (Held (record { session = slot.session; ports = w }))
+    next_kept s.places.items c.args.place s.next (Held slot) (Held (record { session = slot.session; ports = w; meter = slot.meter }))
     (item_held _ _ _ _ c.self.view_is c.args.place c.index_mut.result.now slot
     c.requires c.index_mut.ensures.value c.item_mut-lent.ensures.value)
     (λ e. cc) (λ e. cc) c.self.invariant
@@ -32,12 +32,12 @@ returns g c =
       (
         refl,
         λ w. place_set _ _ _ _ c.self.view_is c.args.place
-            (Held (record { session = slot.session; ports = w }))
+            (Held (record { session = slot.session; ports = w; meter = slot.meter }))
             ∙ ap (λ found. with_ports_in c.args.self.now c.args.place found w) (sym at),
       ),
       record {
         writes_back = tt;
-        value = λ held own. ap (λ p. p.1) (same_held _ _ _ _ c.self.view_is c.args.place
+        value = λ held own. ap (λ (p : SlotView g.row.P.Denot). p.ports) (same_held _ _ _ _ c.self.view_is c.args.place
             c.index_mut.result.now slot c.requires c.index_mut.ensures.value c.item_mut-lent.ensures.value held own);
       },
     )

@@ -1,6 +1,7 @@
 use Rattle.std.proofs.Common.{sym, ap, ◌∙◌, subst, arith}
 use Rattle.daide_driver.specs.declared.place.SlabPlace.TheVariants.{Free}
 use Rattle.daide_driver.specs.Hub.{IsReportedOf}
+use Rattle.daide_driver.specs.Slab.{SlotView}
 use Rattle.daide_driver.proofs.SlabLemmas.{held_at, is_there, next_freed, place_set, same_held, within}
 use Rattle.daide_driver.proofs.slab.Slab.remove.Goals as goal
 
@@ -15,11 +16,11 @@ unreachable-requires g c =
     c.requires.held c.index_mut.ensures.value in
     c.in_default.not-Held slot.0 (c.replace-taken.ensures.value ∙ slot.1)
 
-pub into_removed-requires : goal.into_removed-requires
-into_removed-requires g c =
+pub from_closed-requires : goal.from_closed-requires
+from_closed-requires g c =
     let s = c.self.inside in
     let slot = c.in-Held.slot in
-    c.requires.closed (slot.session, slot.ports) (held_at _ _ _ _ c.self.view_is c.args.place
+    c.requires.closed (record { session = slot.session; ports = slot.ports; meter = slot.meter }) (held_at _ _ _ _ c.self.view_is c.args.place
     c.index_mut.result.now slot c.requires.held c.index_mut.ensures.value (sym c.replace-taken.ensures.value ∙ c.in-Held.is))
 
 pub invariant_of-self : goal.invariant_of-self
@@ -36,14 +37,14 @@ returns-clause-frees g c =
 pub returns-clause-ports : goal.returns-clause-ports
 returns-clause-ports g c = λ held own.
     let s = c.self.inside in
-    c.into_removed.ensures.ports ∙ ap (λ p. p.1) (same_held _ _ _ _ c.self.view_is
+    c.from_closed.ensures.ports ∙ ap (λ (p : SlotView g.row.P.Denot). p.ports) (same_held _ _ _ _ c.self.view_is
     c.args.place c.index_mut.result.now c.in-Held.slot c.requires.held c.index_mut.ensures.value
     (sym c.replace-taken.ensures.value ∙ c.in-Held.is) held own)
 
 pub returns-clause-reported : goal.returns-clause-reported
 returns-clause-reported g c = λ held own.
     let s = c.self.inside in
-    subst (λ h. IsReportedOf h.0 c.into_removed.result.account c.into_removed.result.ending c.into_removed.result.fault_field)
+    subst (λ (h : SlotView g.row.P.Denot). IsReportedOf h.session c.from_closed.result.account c.from_closed.result.ending c.from_closed.result.fault_field)
     (same_held _ _ _ _ c.self.view_is c.args.place c.index_mut.result.now c.in-Held.slot
     c.requires.held c.index_mut.ensures.value (sym c.replace-taken.ensures.value ∙ c.in-Held.is) held own)
-    c.into_removed.ensures.reported
+    c.from_closed.ensures.reported

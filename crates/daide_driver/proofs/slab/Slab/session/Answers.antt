@@ -1,5 +1,5 @@
 use Rattle.std.proofs.Common.{ap, arith}
-use Rattle.daide_driver.specs.Slab.{is_held}
+use Rattle.daide_driver.specs.Slab.{SlotView, is_held}
 use Rattle.daide_driver.proofs.SlabLemmas.{is_there, same_held, within}
 use Rattle.daide_driver.proofs.slab.Slab.session.Goals as goal
 
@@ -13,5 +13,5 @@ item-requires g c =
     ap is_held slot.1
 
 pub returns : goal.returns
-returns g c = λ held own. ap (λ h. h.0) (same_held _ _ _ _ c.self.view_is c.args.place c.index.result.now c.item.result.now
+returns g c = λ held own. ap (λ (h : SlotView g.row.P.Denot). h.session) (same_held _ _ _ _ c.self.view_is c.args.place c.index.result.now c.item.result.now
     c.requires c.index.ensures c.item.ensures held own)

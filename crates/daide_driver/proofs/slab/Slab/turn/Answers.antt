@@ -25,8 +25,8 @@ pub returns : goal.returns
 returns g c =
     let s = c.self.inside in
     let slot = c.item_mut.result.now in (
-      (slot.session, slot.ports),
-      (c.turn.new.self.session, c.turn.new.self.ports),
+      record { session = slot.session; ports = slot.ports; meter = slot.meter },
+      record { session = c.turn.new.self.session; ports = c.turn.new.self.ports; meter = c.turn.new.self.meter },
       held_at _ _ _ _ c.self.view_is c.args.place c.index_mut.result.now slot
           c.requires c.index_mut.ensures.value c.item_mut.ensures.value,
       place_set _ _ _ _ c.self.view_is c.args.place (Held c.turn.new.self),

@@ -28,5 +28,5 @@ pub returns-clause-opening : goal.returns-clause-opening
 returns-clause-opening g c =
     let end = c.loop-place-test.false in
     let same : c.loop-place._place ≡ c.args.max = omega (arith, end, c.loop-place.auto._place-end) in
-    opening (λ slot. (slot.session, slot.ports)) (limits_with c.args.limits.config (words_of c.args.words))
+    opening (λ slot. record { session = slot.session; ports = slot.ports; meter = slot.meter }) (limits_with c.args.limits.config (words_of c.args.words))
     c.loop-place.places.items c.loop-place._place c.args.max c.loop-place.invariant.items same

@@ -4,8 +4,7 @@ use Rattle.daide_io.specs.declared.system.Connect.TheVariants.{Ready, Failed, Pe
 use Rattle.daide_io.specs.declared.system.Notice.TheVariants.{CannotReach}
 use Rattle.daide_io.specs.Ports.{PortCall}
 use Rattle.daide_io.specs.System.{SystemCall, Connects, Notifies, TransitsBy}
-use Rattle.daide_driver.specs.Slab.{SlabView, is_at, is_kept, OpensAt}
-use Rattle.daide_event_loop.specs.QuotaPorts.{QuotaPortsView}
+use Rattle.daide_driver.specs.Slab.{SlabView, is_at, is_kept}
 use Rattle.daide_event_loop.specs.Serving.{ServiceView, VisitsPlace, IsRefusedAt}
 use Rattle.daide_event_loop.proofs.VisitLemmas.{passed_over, kept_in, visited_kept, opened_there}
 use Rattle.daide_event_loop.proofs.serving.Service.join.Goals as goal
@@ -36,7 +35,7 @@ open-requires g c =
 
 pub give_turns-requires : goal.give_turns-requires
 give_turns-requires g c =
-    opened_there c.self.inside.slab c.args.place _ c.open.new.self
+    opened_there c.self.inside.slab c.args.place _ _ c.open.new.self
     (kept_in (slice_get c.self.inside.slab.places c.args.place) (sym c.is_kept.ensures ∙ c.if-not-is_kept.false))
     c.in-Ok.ensures.opens
 
@@ -63,7 +62,7 @@ returns-in-Failed-clause-visits g c =
       Connects c.args.place Failed ∷ Notifies CannotReach ∷ [],
       (c.connected.new.self, c.in-Failed.ensures, (c.log.new.self, c.log.ensures, refl)),
       visited_kept g.P.Ports.transition run c.args.place 1 Failed (Notifies CannotReach ∷ []) (record run { slab = c.give_up.new.self })
-          kept (refl, refl, ap (λ (slab : SlabView (QuotaPortsView g.row.P.Denot)). record run { slab = slab }) c.give_up.ensures),
+          kept (refl, refl, ap (λ (slab : SlabView g.row.P.Denot). record run { slab = slab }) c.give_up.ensures),
     )
 
 pub returns-in-Ok-clause-visits : goal.returns-in-Ok-clause-visits
@@ -76,8 +75,7 @@ returns-in-Ok-clause-visits g c =
       ready = c.self.inside.ready;
     } in
     let turns = c.give_turns.ensures in
-    let opens = subst (λ (own : QuotaPortsView g.row.P.Denot). OpensAt run.slab c.args.place own c.open.new.self) c.new-ports.ensures
-    c.in-Ok.ensures.opens in
+    let opens = c.in-Ok.ensures.opens in
     subst (λ (old : ServiceView g.row.P.Denot). Visited g.P.Ports.transition g.S.System.transition c.args.system.now old c.args.place
     c.give_turns.result c.give_turns.new.self c.give_turns.new.system) c.self.view_is (
       Connects c.args.place (Ready ports) ∷ turns.0,
@@ -105,6 +103,6 @@ returns-in-Err-clause-broken_off g c =
         pending = kept;
         asked = refl;
         refused = c.in-Err.ensures.refused;
-        same = ap (λ (slab : SlabView (QuotaPortsView g.row.P.Denot)). record run { slab = slab }) c.in-Err.ensures.unchanged;
+        same = ap (λ (slab : SlabView g.row.P.Denot). record run { slab = slab }) c.in-Err.ensures.unchanged;
       },
     )

@@ -1,4 +1,4 @@
-use Rattle.std.proofs.Common.{refl}
+use Rattle.std.proofs.Common.{refl, rules}
 use Rattle.daide_buffered_io.proofs.StreamLemmas.{asked_moves}
 use Rattle.daide_sockets.proofs.ports.SocketPortsPorts.clock.Goals as goal
 
@@ -6,5 +6,5 @@ pub returns-clause-transition : goal.returns-clause-transition
 returns-clause-transition g c = (
   asked_moves g.S.Duplex.to_give g.S.Duplex.taken _ _ _ refl,
   refl,
-  (c.clock_event.ensures, refl),
+  ((c.args.is_spent, search rules), refl),
 )
