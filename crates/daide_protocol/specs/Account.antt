@@ -10,6 +10,8 @@ use Rattle.daide_frame.specs.declared.head.Kind.TheVariants.{Dm, Rm}
 use Rattle.daide_grammar.specs.declared.level.Level.{Level}
 use Rattle.daide_grammar.specs.declared.level.Level.TheVariants.{L0}
 use Rattle.daide_protocol.specs.declared.account.Account.{Account}
+use Rattle.daide_protocol.specs.declared.account.Counter.{Counter}
+use Rattle.daide_protocol.specs.declared.account.Counter.TheVariants as Counters
 use Rattle.daide_protocol.specs.declared.account.SideCounts.{SideCounts}
 use Rattle.daide_protocol.specs.declared.bot_name.BotName.TheVariants.{Unknown}
 use Rattle.daide_protocol.specs.declared.note.Deed.{Deed}
@@ -24,6 +26,16 @@ use Rattle.daide_protocol.specs.Summary.{one_more}
 
 abbrev pub no_frames : SideCounts
 no_frames = record { relayed = 0; prn = 0; huh = 0 }
+
+-- all counters, in the order in which texts have them
+abbrev pub all_counters : List Counter
+all_counters = Counters.Relayed ∷ Counters.Prn ∷ Counters.Huh ∷ []
+
+-- the number of a counter
+abbrev pub side_count : Counter → SideCounts → ℕ
+side_count Counters.Relayed c = c.relayed
+side_count Counters.Prn c = c.prn
+side_count Counters.Huh c = c.huh
 
 -- the account of a session without any effect
 abbrev pub nothing_accounted : Account

@@ -3,10 +3,10 @@
 
 ghost use Rattle.std.specs.Prelude.{◌≡◌, ℕ, List, Some};
 ghost use Rattle.daide_token.specs.Token.{tokens_of};
-ghost use Rattle.daide_protocol.specs.AccountText.{account_text, name_part, rest_text, side_text};
+ghost use Rattle.daide_protocol.specs.AccountText.{account_text, counter_name, name_part, rest_text, side_text};
 ghost use Rattle.daide_protocol.specs.BotName.{name_after};
 ghost use Rattle.daide_protocol.specs.HloLevel.{lvl_scan_of};
-ghost use Rattle.daide_protocol.specs.Account.{no_frames, nothing_accounted, frame_counted, frame_accounted};
+ghost use Rattle.daide_protocol.specs.Account.{side_count, no_frames, nothing_accounted, frame_counted, frame_accounted};
 ghost use Rattle.daide_protocol.specs.Account.{fault_accounted, summary_of, level_after as next_level};
 
 use crate::bot_name::BotName;
@@ -17,14 +17,22 @@ use daide_frame::{Kind, Side};
 use daide_grammar::Level;
 use std::fmt;
 
-/// How many frames of one side were relayed, and how many of its messages got PRN and HUH, each modulo 2^64.
+/// What is counted for each side.
+#[derive(Clone, Copy)]
+pub enum Counter {
+    /// Frames of the side that were relayed to the other side.
+    Relayed,
+    /// Messages of the side that got PRN.
+    Prn,
+    /// Messages of the side that got HUH.
+    Huh,
+}
+
+/// The number of each counter of one side, modulo 2^64.
 #[derive(Clone, Copy, Debug, PartialEq, Eq)]
 pub struct SideCounts {
-    /// Frames of the side that were relayed to the other side.
     pub relayed: u64,
-    /// Messages of the side that got PRN.
     pub prn: u64,
-    /// Messages of the side that got HUH.
     pub huh: u64,
 }
 
@@ -41,6 +49,22 @@ pub struct Account {
     pub level: Level,
     /// The name of the bot, by the last NME or IAM of it that was relayed.
     pub name: BotName,
+}
+
+impl Counter {
+    /// All counters, in the order in which texts have them.
+    pub const ALL: [Counter; 3] = [Counter::Relayed, Counter::Prn, Counter::Huh];
+
+    /// Returns the name of the counter in texts.
+    pub fn name(self) -> &'static str
+        ensures { result.now ≡ counter_name self }
+    {
+        match self {
+            Counter::Relayed => "relayed",
+            Counter::Prn => "prn",
+            Counter::Huh => "huh",
+        }
+    }
 }
 
 impl SideCounts {
@@ -64,6 +88,17 @@ impl SideCounts {
             Deed::Dropped => {}
             Deed::Prn => self.prn = self.prn.wrapping_add(1),
             Deed::Huh(_) => self.huh = self.huh.wrapping_add(1),
+        }
+    }
+
+    /// Returns the number of a counter.
+    pub fn of(&self, counter: Counter) -> u64
+        ensures { result ≡ side_count counter self.now }
+    {
+        match counter {
+            Counter::Relayed => self.relayed,
+            Counter::Prn => self.prn,
+            Counter::Huh => self.huh,
         }
     }
 }
@@ -154,11 +189,14 @@ impl Account {
 impl fmt::Display for SideCounts {
     ghost output = { λ counts. Some (side_text counts) };
 
-    /// Writes each count before its name.
+    /// Writes each count before its name, after a space.
     #[tactic(auto, unfolding(crate::specs::AccountText::side_text))]
     fn fmt<W: fmt::Write>(&self, f: &mut fmt::Formatter<W>) -> fmt::Result {
-        let SideCounts { relayed, prn, huh } = *self;
-        write!(f, "{relayed} relayed {prn} prn {huh} huh")
+        for counter in Counter::ALL {
+            let (count, name) = (self.of(counter), counter.name());
+            write!(f, " {count} {name}")?;
+        }
+        Ok(())
     }
 }
 
@@ -211,6 +249,6 @@ impl fmt::Display for Account {
         let bot = self.bot;
         let server = self.server;
         let rest = AccountRest { account: *self };
-        write!(f, "bot {bot}; server {server}{rest}")
+        write!(f, "bot{bot}; server{server}{rest}")
     }
 }

@@ -1,6 +1,7 @@
 //! The limits that the operator sets for a session.
 
-ghost use Rattle.std.specs.Prelude.{◌≡◌, Ok, Err, IfOk, IfErr};
+ghost use Rattle.std.specs.Prelude.{◌≡◌, Ok, Err, Some, IfOk, IfErr};
+ghost use Rattle.daide_grammar.specs.Level.{level_of_number};
 ghost use Rattle.daide_protocol.specs.Config.{config_fault};
 
 use crate::bounds::{MAX_BODY, MAX_DEPTH, MIN_BODY, MIN_DEPTH};
@@ -49,6 +50,13 @@ impl SessionLimits {
         ensures { result ≡ self.config }
     {
         self.config
+    }
+
+    /// Returns the highest level that an HLO may set.
+    pub fn top_level(self) -> Level
+        ensures { level_of_number self.config.top_level ≡ Some result }
+    {
+        Level::of(self.config.top_level).unwrap()
     }
 }
 

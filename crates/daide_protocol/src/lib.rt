@@ -23,7 +23,7 @@ pub mod phase;
 pub mod summary;
 pub mod transitions;
 
-pub use account::{Account, SideCounts};
+pub use account::{Account, Counter, SideCounts};
 pub use bot_name::{BotName, NameText};
 pub use bounds::{MAX_BODY, MAX_DEPTH, MAX_SESSIONS, MIN_BODY, MIN_DEPTH, STACK_ENTRIES};
 pub use config::{Config, ConfigError, SessionLimits};

@@ -14,6 +14,8 @@ use Rattle.daide_status.specs.declared.request.Format.TheVariants.{Table, Json, 
 use Rattle.daide_status.specs.declared.snapshot.RunStatus.{RunStatus}
 use Rattle.daide_status.specs.declared.snapshot.SessionRow.{SessionRow}
 use Rattle.daide_status.specs.Columns.{phase_cell, side_cells}
+use Rattle.daide_status.specs.Json.{json_sides}
+use Rattle.daide_status.specs.Metrics.{count_labels, count_sample, sample_front, session_sample}
 use Rattle.daide_status.specs.Pieces.{phase_name}
 use Rattle.daide_status.specs.StatusTexts.{status_text}
 
@@ -124,7 +126,7 @@ cells = (refl, refl, refl)
 
 document_of_none : status_text Json idle_run []
     ≡ codes "{\"open\":0,\"connecting\":0,\"served\":0,\"unreached\":0,\"bots_may_wait\":false,\"stopping\":false,\"seconds\":7,\"sessions\":[\n]}\n"
-unfolding digits text_with name_of names
+unfolding digits text_with name_of names json_sides
 document_of_none = refl
 
 abbrev busy_members : List ℕ
@@ -144,12 +146,12 @@ second_object =
     ++ codes ",\"queued\":{\"bot\":0,\"server\":0},\"held\":{\"bot\":0,\"server\":8},\"received\":{\"bot\":8,\"server\":0},\"sent\":{\"bot\":0,\"server\":7},\"idle_seconds\":{\"bot\":5,\"server\":null}}"
 
 document_of_one : status_text Json busy_run (first ∷ []) ≡ busy_members ++ first_object ++ codes "\n]}\n"
-unfolding digits text_with name_of names
+unfolding digits text_with name_of names json_sides
 document_of_one = refl
 
 document_of_two : status_text Json busy_run (first ∷ second ∷ [])
     ≡ busy_members ++ first_object ++ codes ",\n" ++ second_object ++ codes "\n]}\n"
-unfolding digits text_with name_of names
+unfolding digits text_with name_of names json_sides
 document_of_two = refl
 
 -- ---- as metrics
@@ -182,7 +184,7 @@ metrics_of_none : status_text Prometheus idle_run []
     ++ codes "# HELP daide_gate_stopping Whether the run accepts no further bot.\n# TYPE daide_gate_stopping gauge\ndaide_gate_stopping 0\n"
     ++ codes "# HELP daide_gate_up_seconds Seconds since the run began.\n# TYPE daide_gate_up_seconds gauge\ndaide_gate_up_seconds 7\n"
     ++ frames_head ++ bytes_head ++ waiting_head ++ idle_head ++ level_head
-unfolding digits text_with name_of names
+unfolding digits text_with name_of names sample_front session_sample count_labels count_sample
 metrics_of_none = refl
 
 abbrev busy_metrics : List ℕ
@@ -228,7 +230,7 @@ first_level = codes "daide_gate_session_level{session=\"1\",bot=\"127.0.0.1:5000
 metrics_of_one : status_text Prometheus busy_run (first ∷ [])
     ≡ busy_metrics ++ frames_head ++ first_frames ++ bytes_head ++ first_bytes ++ waiting_head ++ first_waiting ++ idle_head ++ first_idle ++ level_head
     ++ first_level
-unfolding digits text_with name_of names
+unfolding digits text_with name_of names sample_front session_sample count_labels count_sample
 metrics_of_one = refl
 
 -- a side that has sent nothing has no sample
@@ -251,7 +253,7 @@ metrics_of_two : status_text Prometheus busy_run (first ∷ second ∷ [])
     ++ codes "daide_gate_session_waiting_bytes{session=\"12\",bot=\"10.0.0.7:6\",side=\"server\"} 8\n"
     ++ idle_head ++ first_idle ++ codes "daide_gate_session_idle_seconds{session=\"12\",bot=\"10.0.0.7:6\",side=\"bot\"} 5\n"
     ++ level_head ++ first_level ++ codes "daide_gate_session_level{session=\"12\",bot=\"10.0.0.7:6\",phase=\"wait RM\"} 0\n"
-unfolding digits text_with name_of names
+unfolding digits text_with name_of names sample_front session_sample count_labels count_sample
 metrics_of_two = refl
 
 -- ---- a number that is wider than its column

@@ -1,5 +1,6 @@
 -- The status of a run as a table: a line of the run, the names of the columns, and a line for each session. (own)
-use Rattle.std.specs.Prelude.{ℕ, ◌+◌, ◌++◌, List, [], codes}
+use Rattle.std.specs.Prelude.{ℕ, ◌+◌, ◌++◌, List, [], codes, length, max}
+use Rattle.std.specs.List.{flat_map}
 use Rattle.std.specs.Fmt.{decimal}
 use Rattle.std.specs.Net.Text.{socket_text}
 use Rattle.daide_grammar.specs.declared.level.Level.{Level}
@@ -7,6 +8,8 @@ use Rattle.daide_grammar.specs.declared.level.Level.TheVariants.{L0, L10, L20, L
 use Rattle.daide_protocol.specs.declared.account.SideCounts.{SideCounts}
 use Rattle.daide_protocol.specs.declared.bot_name.BotName.{BotName}
 use Rattle.daide_protocol.specs.declared.bot_name.BotName.TheVariants.{Unknown, Nme, Iam}
+use Rattle.daide_protocol.specs.Account.{all_counters, side_count}
+use Rattle.daide_protocol.specs.AccountText.{counter_name}
 use Rattle.daide_protocol.specs.BotName.{name_text}
 use Rattle.daide_protocol.specs.declared.phase.Phase.{Phase}
 use Rattle.daide_protocol.specs.declared.phase.Phase.TheVariants.{WaitIm, WaitRm, Open, Over}
@@ -50,10 +53,10 @@ table_head run =
     ++ codes "                      from the bot   from the server\n"
     ++ codes "session  phase   relayed  PRN  HUH relayed  PRN  HUH  to bot to server    bot sent server sent    bot took server took  bot idle server idle   port bot and its name\n"
 
--- the counts of a side
+-- the counts of a side, each in a column as wide as its name, of four bytes at least
 abbrev pub side_cells : SideCounts → List ℕ
 side_cells c =
-    cell 7 (decimal c.relayed) ++ cell 4 (decimal c.prn) ++ cell 4 (decimal c.huh)
+    flat_map (λ counter. cell (max (length (counter_name counter)) 4) (decimal (side_count counter c))) all_counters
 
 -- the name of a bot after its address; nothing if the bot has said none
 abbrev pub name_cell : BotName → List ℕ

@@ -5,6 +5,8 @@ use Rattle.std.specs.List.{flat_map}
 use Rattle.std.specs.Fmt.{decimal}
 use Rattle.std.specs.Net.Text.{socket_text}
 use Rattle.daide_grammar.specs.Level.{level_number}
+use Rattle.daide_protocol.specs.Account.{all_counters, side_count}
+use Rattle.daide_protocol.specs.AccountText.{counter_name}
 use Rattle.daide_protocol.specs.declared.account.Account.{Account}
 use Rattle.daide_protocol.specs.declared.bot_name.BotName.{BotName}
 use Rattle.daide_protocol.specs.declared.bot_name.BotName.TheVariants.{Unknown, Nme, Iam}
@@ -56,7 +58,7 @@ abbrev pub json_identity : SessionRow → List ℕ
 json_identity row = json_session row ++ json_port row ++ json_name row.account.name
 
 -- two numbers, of the bot and of the server
-abbrev pub json_sides : List ℕ → ℕ → ℕ → List ℕ
+unfoldable pub json_sides : List ℕ → ℕ → ℕ → List ℕ
 json_sides name bot server =
     codes ",\"" ++ name ++ codes "\":{\"bot\":" ++ decimal bot ++ codes ",\"server\":" ++ decimal server ++ codes "}"
 
@@ -67,8 +69,8 @@ json_faults faults = codes ",\"faults\":" ++ decimal faults
 -- the counts of a session, by side
 abbrev pub json_counts : Account → List ℕ
 json_counts a =
-    json_sides (codes "relayed") a.bot.relayed a.server.relayed ++ json_sides (codes "prn") a.bot.prn a.server.prn
-    ++ json_sides (codes "huh") a.bot.huh a.server.huh ++ json_faults a.faults
+    flat_map (λ counter. json_sides (counter_name counter) (side_count counter a.bot) (side_count counter a.server)) all_counters
+    ++ json_faults a.faults
 
 -- the bytes that wait for each side, in the session and in the side's socket
 abbrev pub json_waiting : SessionRow → List ℕ

@@ -2,8 +2,12 @@
 -- bot's name may need one, and has printable characters alone. (own)
 use Rattle.std.specs.Prelude.{ℕ, ◌+◌, ◌++◌, Bool, true, false, List, [], Option, Some, None, codes}
 use Rattle.std.specs.Fmt.{decimal}
+use Rattle.std.specs.List.{flat_map}
 use Rattle.std.specs.Net.Text.{socket_text}
 use Rattle.daide_grammar.specs.Level.{level_number}
+use Rattle.daide_protocol.specs.Account.{all_counters, side_count}
+use Rattle.daide_protocol.specs.AccountText.{counter_name}
+use Rattle.daide_protocol.specs.declared.account.SideCounts.{SideCounts}
 use Rattle.daide_protocol.specs.declared.bot_name.BotName.{BotName}
 use Rattle.daide_protocol.specs.declared.bot_name.BotName.TheVariants.{Unknown, Nme, Iam}
 use Rattle.daide_protocol.specs.declared.phase.Phase.{Phase}
@@ -48,30 +52,38 @@ metrics_head run =
     ++ run_metric (codes "unreached_total") (codes "counter")
     (codes "Bots for which the server could not be reached.") run.unreached ++ waiting_metrics run
 
--- a sample of a session, with one more label
-abbrev pub session_sample : List ℕ → SessionRow → List ℕ → ℕ → List ℕ
-session_sample name row label value =
+-- a sample of a session up to its labels after the session's own
+unfoldable pub sample_front : List ℕ → SessionRow → List ℕ
+sample_front name row =
     codes "daide_gate_" ++ name ++ codes "{session=\"" ++ decimal row.number ++ codes "\",bot=\"" ++ socket_text row.bot
-    ++ codes "\"," ++ label ++ codes "} " ++ decimal value ++ codes "\n"
+    ++ codes "\","
 
--- the frames from the bot, by what was done with them
-abbrev pub bot_samples : SessionRow → List ℕ
-bot_samples row =
-    session_sample (codes "session_frames_total") row (codes "side=\"bot\",result=\"relayed\"") row.account.bot.relayed
-    ++ session_sample (codes "session_frames_total") row (codes "side=\"bot\",result=\"prn\"") row.account.bot.prn
-    ++ session_sample (codes "session_frames_total") row (codes "side=\"bot\",result=\"huh\"") row.account.bot.huh
+-- the end of a sample
+abbrev pub sample_end : ℕ → List ℕ
+sample_end value = codes "} " ++ decimal value ++ codes "\n"
 
--- the frames from the server
-abbrev pub server_samples : SessionRow → List ℕ
-server_samples row =
-    session_sample (codes "session_frames_total") row (codes "side=\"server\",result=\"relayed\"") row.account.server.relayed
-    ++ session_sample (codes "session_frames_total") row (codes "side=\"server\",result=\"prn\"") row.account.server.prn
-    ++ session_sample (codes "session_frames_total") row (codes "side=\"server\",result=\"huh\"") row.account.server.huh
+-- a sample of a session, with one more label
+unfoldable pub session_sample : List ℕ → SessionRow → List ℕ → ℕ → List ℕ
+session_sample name row label value = sample_front name row ++ label ++ sample_end value
+
+-- the labels of a count: its side, and the name of its counter
+unfoldable pub count_labels : List ℕ → List ℕ → List ℕ
+count_labels side name = codes "side=\"" ++ side ++ codes "\",result=\"" ++ name ++ codes "\""
+
+-- the number of frames from a side that a counter of this name counts
+unfoldable pub count_sample : SessionRow → List ℕ → List ℕ → ℕ → List ℕ
+count_sample row side name count =
+    sample_front (codes "session_frames_total") row ++ count_labels side name ++ sample_end count
+
+-- the frames from a side, by what was done with them
+abbrev pub side_samples : SessionRow → List ℕ → SideCounts → List ℕ
+side_samples row side c =
+    flat_map (λ counter. count_sample row side (counter_name counter) (side_count counter c)) all_counters
 
 -- the frames of both, and the faults, which have no side
 abbrev pub frame_samples : SessionRow → List ℕ
 frame_samples row =
-    bot_samples row ++ server_samples row
+    side_samples row (codes "bot") row.account.bot ++ side_samples row (codes "server") row.account.server
     ++ session_sample (codes "session_frames_total") row (codes "result=\"fault\"") row.account.faults
 
 -- the bytes received from each side, and those sent to each
@@ -109,20 +121,10 @@ name_label Unknown = []
 name_label (Nme text) = codes ",name=" ++ quoted_name (Nme text)
 name_label (Iam power) = codes ",name=" ++ quoted_name (Iam power)
 
--- the sample of a session's level up to the labels of its phase and its name
-abbrev pub level_front : SessionRow → List ℕ
-level_front row =
-    codes "daide_gate_session_level{session=\"" ++ decimal row.number ++ codes "\",bot=\"" ++ socket_text row.bot
-    ++ codes "\","
-
--- the end of a sample
-abbrev pub sample_end : ℕ → List ℕ
-sample_end value = codes "} " ++ decimal value ++ codes "\n"
-
 -- the level of a session, with its phase and its bot's name
 abbrev pub level_sample : SessionRow → List ℕ
 level_sample row =
-    level_front row ++ phase_label row.phase ++ name_label row.account.name ++ sample_end (level_number row.level)
+    sample_front (codes "session_level") row ++ phase_label row.phase ++ name_label row.account.name ++ sample_end (level_number row.level)
 
 -- a metric of the sessions, with all its samples
 abbrev pub session_metric : List ℕ → List ℕ → List ℕ → List ℕ → List ℕ

@@ -5,7 +5,7 @@ ghost use Rattle.daide_status.specs.Json.{json_counts, json_faults, json_head, j
 
 use crate::pieces::{phase_name, port_number, put_or_null, put_quoted_name};
 use crate::snapshot::{RunStatus, SessionRow};
-use daide_protocol::{Account, BotName};
+use daide_protocol::{Account, BotName, Counter};
 use std::io;
 use std::io::Write;
 
@@ -104,6 +104,7 @@ fn put_identity(row: &SessionRow, out: &mut Vec<u8>) -> io::Result<()>
 }
 
 /// Appends two numbers, of the bot and of the server, as a member.
+#[tactic(auto, unfolding(crate::specs::Json::json_sides))]
 fn put_sides(name: &str, bot: u128, server: u128, out: &mut Vec<u8>) -> io::Result<()>
     ensures { OnOk result (out.new.items ≡ out.old.items ++ json_sides name.now bot server) }
 {
@@ -121,10 +122,10 @@ fn put_faults(faults: u64, out: &mut Vec<u8>) -> io::Result<()>
 fn put_counts(account: &Account, out: &mut Vec<u8>) -> io::Result<()>
     ensures { OnOk result (out.new.items ≡ out.old.items ++ json_counts account.now) }
 {
-    let (bot, server) = (account.bot, account.server);
-    put_sides("relayed", bot.relayed as u128, server.relayed as u128, out)?;
-    put_sides("prn", bot.prn as u128, server.prn as u128, out)?;
-    put_sides("huh", bot.huh as u128, server.huh as u128, out)?;
+    for counter in Counter::ALL {
+        let (bot, server) = (account.bot.of(counter), account.server.of(counter));
+        put_sides(counter.name(), bot as u128, server as u128, out)?;
+    }
     put_faults(account.faults, out)
 }
 

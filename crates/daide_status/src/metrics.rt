@@ -1,14 +1,14 @@
 //! The status in the text format of Prometheus: each metric with its help and its type, and then all its samples.
 
 ghost use Rattle.std.specs.Prelude.{◌≡◌, ◌+◌, ◌++◌, [], OnOk, codes};
-ghost use Rattle.daide_status.specs.Metrics.{bot_samples, server_samples, flag_number, frame_samples, idle_samples, idle_sample, level_sample};
+ghost use Rattle.daide_status.specs.Metrics.{count_labels, count_sample, side_samples, flag_number, frame_samples, idle_samples, idle_sample, level_sample};
 ghost use Rattle.daide_status.specs.Metrics.{metric_head, metrics_head, phase_label, run_metric, session_sample, waiting_samples};
 ghost use Rattle.daide_status.specs.Pieces.{quoted_name};
-ghost use Rattle.daide_status.specs.Metrics.{byte_samples, session_counters, level_front, name_label, run_sample, sample_end, session_metric, session_metrics, waiting_metrics};
+ghost use Rattle.daide_status.specs.Metrics.{byte_samples, session_counters, sample_front, name_label, run_sample, sample_end, session_metric, session_metrics, waiting_metrics};
 
 use crate::pieces::{put_quoted_name, sum};
 use crate::snapshot::{RunStatus, SessionRow};
-use daide_protocol::{BotName, Phase};
+use daide_protocol::{BotName, Counter, Phase, SideCounts};
 use std::alloc::Global;
 use std::io;
 use std::io::Write;
@@ -64,19 +64,17 @@ fn put_value(name: &str, value: u64, out: &mut Vec<u8>) -> io::Result<()>
     writeln!(out, "daide_gate_{name} {value}")
 }
 
-/// Appends a gauge of the run.
-fn put_gauge(name: &str, help: &str, value: u64, out: &mut Vec<u8>) -> io::Result<()>
-    ensures { OnOk result (out.new.items ≡ out.old.items ++ run_metric name.now (codes "gauge") help.now value) }
+/// Appends a metric of the run, with its one sample.
+fn put_run_metric(
+    name: &str,
+    kind: &str,
+    help: &str,
+    value: u64,
+    out: &mut Vec<u8>,
+) -> io::Result<()>
+    ensures { OnOk result (out.new.items ≡ out.old.items ++ run_metric name.now kind.now help.now value) }
 {
-    put_metric(name, "gauge", help, out)?;
-    put_value(name, value, out)
-}
-
-/// Appends a counter of the run.
-fn put_counter(name: &str, help: &str, value: u64, out: &mut Vec<u8>) -> io::Result<()>
-    ensures { OnOk result (out.new.items ≡ out.old.items ++ run_metric name.now (codes "counter") help.now value) }
-{
-    put_metric(name, "counter", help, out)?;
+    put_metric(name, kind, help, out)?;
     put_value(name, value, out)
 }
 
@@ -84,20 +82,23 @@ fn put_counter(name: &str, help: &str, value: u64, out: &mut Vec<u8>) -> io::Res
 fn put_state(run: &RunStatus, out: &mut Vec<u8>) -> io::Result<()>
     ensures { OnOk result (out.new.items ≡ out.old.items ++ waiting_metrics run.now) }
 {
-    put_gauge(
+    put_run_metric(
         "bots_may_wait",
+        "gauge",
         "Whether bots may wait for a place.",
         run.has_waiting as u64,
         out,
     )?;
-    put_gauge(
+    put_run_metric(
         "stopping",
+        "gauge",
         "Whether the run accepts no further bot.",
         run.is_stopping as u64,
         out,
     )?;
-    put_gauge(
+    put_run_metric(
         "up_seconds",
+        "gauge",
         "Seconds since the run began.",
         run.seconds,
         out,
@@ -108,21 +109,30 @@ fn put_state(run: &RunStatus, out: &mut Vec<u8>) -> io::Result<()>
 pub(crate) fn put_metrics_head(run: &RunStatus, out: &mut Vec<u8>) -> io::Result<()>
     ensures { OnOk result (out.new.items ≡ out.old.items ++ metrics_head run.now) }
 {
-    put_gauge("sessions", "Sessions that are open.", run.open as u64, out)?;
-    put_gauge(
+    put_run_metric(
+        "sessions",
+        "gauge",
+        "Sessions that are open.",
+        run.open as u64,
+        out,
+    )?;
+    put_run_metric(
         "connecting",
+        "gauge",
         "Bots that wait for a connection to the server.",
         run.connecting as u64,
         out,
     )?;
-    put_counter(
+    put_run_metric(
         "served_total",
+        "counter",
         "Sessions that are over.",
         run.served as u64,
         out,
     )?;
-    put_counter(
+    put_run_metric(
         "unreached_total",
+        "counter",
         "Bots for which the server could not be reached.",
         run.unreached as u64,
         out,
@@ -130,7 +140,27 @@ pub(crate) fn put_metrics_head(run: &RunStatus, out: &mut Vec<u8>) -> io::Result
     put_state(run, out)
 }
 
+/// Appends a sample of a session up to its labels after the session's own.
+fn put_sample_front(name: &str, row: &SessionRow, out: &mut Vec<u8>) -> io::Result<()>
+    ensures { OnOk result (out.new.items ≡ out.old.items ++ sample_front name.now row.now) }
+{
+    let number = row.number;
+    let bot = row.bot;
+    write!(
+        out,
+        "daide_gate_{name}{{session=\"{number}\",bot=\"{bot}\","
+    )
+}
+
+/// Appends the end of a sample.
+fn put_sample_end(value: u128, out: &mut Vec<u8>) -> io::Result<()>
+    ensures { OnOk result (out.new.items ≡ out.old.items ++ sample_end value) }
+{
+    writeln!(out, "}} {value}")
+}
+
 /// Appends a sample of a session.
+#[tactic(auto, unfolding(crate::specs::Metrics::session_sample))]
 fn put_sample(
     name: &str,
     row: &SessionRow,
@@ -140,54 +170,57 @@ fn put_sample(
 ) -> io::Result<()>
     ensures { OnOk result (out.new.items ≡ out.old.items ++ session_sample name.now row.now label.now value) }
 {
-    let number = row.number;
-    let bot = row.bot;
-    writeln!(
-        out,
-        "daide_gate_{name}{{session=\"{number}\",bot=\"{bot}\",{label}}} {value}"
-    )
+    put_sample_front(name, row, out)?;
+    out.write_all(label.as_bytes())?;
+    put_sample_end(value, out)
 }
 
-/// Appends the number of frames with this side and this result.
-fn put_count(row: &SessionRow, label: &str, count: u64, out: &mut Vec<u8>) -> io::Result<()>
-    ensures { OnOk result (out.new.items
-        ≡ out.old.items ++ session_sample (codes "session_frames_total") row.now label.now count) }
+/// Appends the labels of a count: its side, and the name of its counter.
+#[tactic(auto, unfolding(crate::specs::Metrics::count_labels))]
+fn put_count_labels(side: &str, name: &str, out: &mut Vec<u8>) -> io::Result<()>
+    ensures { OnOk result (out.new.items ≡ out.old.items ++ count_labels side.now name.now) }
 {
-    put_sample("session_frames_total", row, label, count as u128, out)
+    write!(out, "side=\"{side}\",result=\"{name}\"")
 }
 
-/// Appends the frames from the bot, by what was done with them.
-fn put_bot_frames(row: &SessionRow, out: &mut Vec<u8>) -> io::Result<()>
-    ensures { OnOk result (out.new.items ≡ out.old.items ++ bot_samples row.now) }
+/// Appends the number of frames from a side that a counter of this name counts.
+fn put_count(
+    row: &SessionRow,
+    side: &str,
+    name: &str,
+    count: u64,
+    out: &mut Vec<u8>,
+) -> io::Result<()>
+    ensures { OnOk result (out.new.items ≡ out.old.items ++ count_sample row.now side.now name.now count) }
 {
-    let counts = row.account.bot;
-    put_count(row, "side=\"bot\",result=\"relayed\"", counts.relayed, out)?;
-    put_count(row, "side=\"bot\",result=\"prn\"", counts.prn, out)?;
-    put_count(row, "side=\"bot\",result=\"huh\"", counts.huh, out)
+    put_sample_front("session_frames_total", row, out)?;
+    put_count_labels(side, name, out)?;
+    put_sample_end(count as u128, out)
 }
 
-/// Appends the frames from the server, by what was done with them.
-fn put_server_frames(row: &SessionRow, out: &mut Vec<u8>) -> io::Result<()>
-    ensures { OnOk result (out.new.items ≡ out.old.items ++ server_samples row.now) }
+/// Appends the frames from a side, by what was done with them.
+fn put_side_frames(
+    row: &SessionRow,
+    side: &str,
+    counts: &SideCounts,
+    out: &mut Vec<u8>,
+) -> io::Result<()>
+    ensures { OnOk result (out.new.items ≡ out.old.items ++ side_samples row.now side.now counts.now) }
 {
-    let counts = row.account.server;
-    put_count(
-        row,
-        "side=\"server\",result=\"relayed\"",
-        counts.relayed,
-        out,
-    )?;
-    put_count(row, "side=\"server\",result=\"prn\"", counts.prn, out)?;
-    put_count(row, "side=\"server\",result=\"huh\"", counts.huh, out)
+    for counter in Counter::ALL {
+        put_count(row, side, counter.name(), counts.of(counter), out)?;
+    }
+    Ok(())
 }
 
 /// Appends the frames of a session, by side and by what was done with them, and its faults.
 pub(crate) fn put_frames(row: &SessionRow, out: &mut Vec<u8>) -> io::Result<()>
     ensures { OnOk result (out.new.items ≡ out.old.items ++ frame_samples row.now) }
 {
-    put_bot_frames(row, out)?;
-    put_server_frames(row, out)?;
-    put_count(row, "result=\"fault\"", row.account.faults, out)
+    put_side_frames(row, "bot", &row.account.bot, out)?;
+    put_side_frames(row, "server", &row.account.server, out)?;
+    let faults = row.account.faults as u128;
+    put_sample("session_frames_total", row, "result=\"fault\"", faults, out)
 }
 
 /// Appends the number of bytes with this side and this direction.
@@ -285,33 +318,14 @@ fn put_name_label(name: &BotName, out: &mut Vec<u8>) -> io::Result<()>
     }
 }
 
-/// Appends the sample of a session's level up to the labels of its phase and its name.
-fn put_level_front(row: &SessionRow, out: &mut Vec<u8>) -> io::Result<()>
-    ensures { OnOk result (out.new.items ≡ out.old.items ++ level_front row.now) }
-{
-    let number = row.number;
-    let bot = row.bot;
-    write!(
-        out,
-        "daide_gate_session_level{{session=\"{number}\",bot=\"{bot}\","
-    )
-}
-
-/// Appends the end of a sample.
-fn put_sample_end(value: u64, out: &mut Vec<u8>) -> io::Result<()>
-    ensures { OnOk result (out.new.items ≡ out.old.items ++ sample_end value) }
-{
-    writeln!(out, "}} {value}")
-}
-
 /// Appends the level of a session, with its phase and its bot's name.
 pub(crate) fn put_level(row: &SessionRow, out: &mut Vec<u8>) -> io::Result<()>
     ensures { OnOk result (out.new.items ≡ out.old.items ++ level_sample row.now) }
 {
-    put_level_front(row, out)?;
+    put_sample_front("session_level", row, out)?;
     out.write_all(phase_label(row.phase).as_bytes())?;
     put_name_label(&row.account.name, out)?;
-    put_sample_end(row.level.number() as u64, out)
+    put_sample_end(row.level.number() as u128, out)
 }
 
 /// Appends a metric of the sessions with all its samples.

@@ -7,7 +7,7 @@ ghost use Rattle.daide_status.specs.Columns.{bot_cells, byte_cells, name_cell, n
 use crate::pieces::{port_number, put_cell, put_if, put_or_dash, sum};
 use crate::snapshot::{RunStatus, SessionRow};
 use daide_grammar::Level;
-use daide_protocol::{BotName, Phase, SideCounts};
+use daide_protocol::{BotName, Counter, Phase, SideCounts};
 use std::io;
 use std::io::Write;
 
@@ -76,13 +76,15 @@ pub(crate) fn put_table_head(run: &RunStatus, out: &mut Vec<u8>) -> io::Result<(
     )
 }
 
-/// Appends the counts of a side.
+/// Appends the counts of a side, each in a column as wide as its name, of four bytes at least.
 fn put_side(counts: &SideCounts, out: &mut Vec<u8>) -> io::Result<()>
     ensures { OnOk result (out.new.items ≡ out.old.items ++ side_cells counts.now) }
 {
-    put_cell(7, counts.relayed as u128, out)?;
-    put_cell(4, counts.prn as u128, out)?;
-    put_cell(4, counts.huh as u128, out)
+    for counter in Counter::ALL {
+        let width = counter.name().len().max(4);
+        put_cell(width, counts.of(counter) as u128, out)?;
+    }
+    Ok(())
 }
 
 /// Appends the name of a bot after its address.
