@@ -137,8 +137,8 @@ impl<'w, N: Network, R: AllocGlobal + Files, C: Clock, E: Write + Drop> System<
     ) -> Connect<Recording<SocketPorts<'w, N::Connection>, SessionFile<R::File>>> {
         match self.sockets.connected(place) {
             Connect::Ready(ports) => {
-                let number = ports.number();
-                let session = (number, self.sockets.address_of(number));
+                let bot = ports.identity();
+                let session = (bot.number, Some(bot.address));
                 let Some(folder) = self.folder else {
                     return Connect::Ready(Recording::new(ports, None, None));
                 };

@@ -7,6 +7,7 @@ use Rattle.std.specs.Prelude.{◌&&◌, ◌||◌, not, slice_get}
 use Rattle.std.specs.declared.time.Instant.{Instant}
 use Rattle.daide_buffered_io.specs.declared.readiness.Readiness.{Readiness}
 use Rattle.daide_sockets.specs.declared.admission.Acceptor.{Acceptor}
+use Rattle.daide_sockets.specs.declared.listener.Listener.{Listener}
 use Rattle.daide_sockets.specs.Accepting.{is_accept_made, is_accept_due, is_bot_due, accept_pause, connection_given}
 use Rattle.daide_sockets.specs.Accepting.{AcceptsOnce, AcceptsOneBot, BringsBot, BringsNoBot, FollowsAtMostOnce, FollowsAccepted, ConnectsOnce, ConnectsFrom}
 use Rattle.daide_sockets.specs.Accepting.{Fails, MayNotCome, IsRefused, TriesOn, IsUnreached, IsLate, TriedAll}
@@ -37,20 +38,23 @@ no_accept true = refl
 no_accept false = refl
 
 -- a report that was taken makes none due
-pub taken_not_due : (old new : Table) (key : ℕ) (acceptor : Acceptor) (now : Option Instant) → new ≡ without_report old key →
-    key ≡ listener_key old → now ≡ new.reading → is_accept_made now acceptor.readiness.may_read acceptor.resumes_at ≡ false →
-    is_bot_due new acceptor ≡ false
-taken_not_due old new key acceptor now taken is reading none =
-    let own : listener_key new ≡ key = ap (λ (t : Table). listener_key t) taken ∙ sym is in
-    let known = acceptor.readiness in
-    let report = ap (λ (k : ℕ). report_at new k) own ∙ ap (λ (t : Table). report_at t key) taken
-    ∙ report_cleared old.rows key in
-    let due : is_accept_due new (listener_key new) known acceptor.resumes_at ≡ false =
-    ap (λ (r : Option Instant). is_accept_made r (known.may_read || (report_at new (listener_key new)).may_read) acceptor.resumes_at)
+pub taken_not_due : (old new : Table) (key : ℕ) (listener : Listener) (now : Option Instant) → new ≡ without_report old key →
+    now ≡ new.reading → is_accept_made now listener.may_accept listener.resumes_at ≡ false →
+    is_accept_due new key listener ≡ false
+taken_not_due old new key listener now taken reading none =
+    let report = ap (λ (t : Table). report_at t key) taken ∙ report_cleared old.rows key in
+    ap (λ (r : Option Instant). is_accept_made r (listener.may_accept || (report_at new key).may_read) listener.resumes_at)
     (sym reading)
-    ∙ ap (λ (r : Readiness). is_accept_made now (known.may_read || r.may_read) acceptor.resumes_at) report
-    ∙ ap (λ (b : Bool). is_accept_made now b acceptor.resumes_at) (or_false known.may_read) ∙ none in
-    ap (λ (b : Bool). not acceptor.is_closed && b) due ∙ no_accept (not acceptor.is_closed)
+    ∙ ap (λ (r : Readiness). is_accept_made now (listener.may_accept || r.may_read) listener.resumes_at) report
+    ∙ ap (λ (b : Bool). is_accept_made now b listener.resumes_at) (or_false listener.may_accept) ∙ none
+
+-- so none of a bot is due
+pub no_bot_due : (old new : Table) (key : ℕ) (acceptor : Acceptor) → new ≡ without_report old key → key ≡ listener_key old →
+    is_accept_due new key acceptor.listener ≡ false → is_bot_due new acceptor ≡ false
+no_bot_due old new key acceptor taken is none =
+    let own : listener_key new ≡ key = ap (λ (t : Table). listener_key t) taken ∙ sym is in
+    ap (λ (b : Bool). not acceptor.is_closed && b)
+    (ap (λ (k : ℕ). is_accept_due new k acceptor.listener) own ∙ none) ∙ no_accept (not acceptor.is_closed)
 
 -- ---- rows
 

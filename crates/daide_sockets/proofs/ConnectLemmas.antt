@@ -56,7 +56,7 @@ module _ {S : Type 0} where
       let there : IsSome later.server = rw joined.server refl in
       let same = reached there in
       record {
-        number = joined.number ∙ ap (λ (a : Arriving S). a.number) same;
+        identity = joined.identity ∙ ap (λ (a : Arriving S). a.identity) same;
         bot = joined.bot ∙ ap (λ (a : Arriving S). a.bot) same;
         server = sym (ap (λ (a : Arriving S). a.server) same) ∙ joined.server;
       }
@@ -67,12 +67,12 @@ pub connected_reports : (known : Option Readiness) (own report : Readiness) →
 connected_reports known own report h e = rw e at h
 
 -- a connect that just began has no result until something is reported of it
-pub fresh_waits : {S : Type 0} (table : Table) (key number : ℕ) (begun : Option S) (made : Option (Socket S)) →
+pub fresh_waits : {S : Type 0} (table : Table) (key : ℕ) (begun : Option S) (made : Option (Socket S)) →
     IfSome begun (λ (connection : S). (report_at table key).may_write ≡ false) → (begun ≡ None → made ≡ None) →
-    IfSome made (λ (socket : Socket S). IsFresh socket.stream × (socket.made_for ≡ number) × (socket.readiness.may_write ≡ false)) →
+    IfSome made (λ (socket : Socket S). IsFresh socket.stream × (socket.readiness.may_write ≡ false)) →
     IsSome (option_map (λ (socket : Socket S). socket.stream) made) →
     may_connect table key (option_map (λ (socket : Socket S). socket.readiness) made) ≡ false
-fresh_waits table key number begun None unknown none fresh some = absurd (cc)
-fresh_waits table key number None (Some socket) unknown none fresh some = absurd (let no = none refl in cc)
-fresh_waits table key number (Some connection) (Some socket) unknown none fresh some =
-    ap (λ (b : Bool). b || (report_at table key).may_write) fresh.2 ∙ unknown
+fresh_waits table key begun None unknown none fresh some = absurd (cc)
+fresh_waits table key None (Some socket) unknown none fresh some = absurd (let no = none refl in cc)
+fresh_waits table key (Some connection) (Some socket) unknown none fresh some =
+    ap (λ (b : Bool). b || (report_at table key).may_write) fresh.1 ∙ unknown

@@ -6,12 +6,12 @@ use Rattle.std.specs.declared.time.Duration.{Duration}
 use Rattle.std.specs.declared.time.Instant.{Instant}
 use Rattle.daide_sockets.specs.Control.{has_control_work, control_due}
 use Rattle.daide_sockets.specs.ControlInTime.{IsPlaceInTime, ControlWaitsAreInTime}
-use Rattle.daide_sockets.specs.ControlSlots.{places, has_free, may_accept_control, arming_control, arming_places, arming_listener}
+use Rattle.daide_sockets.specs.ControlSlots.{places, has_free, is_control_due, arming_control, arming_places, arming_listener}
 use Rattle.daide_sockets.specs.InTime.{IsInTimeFor, arming_all}
 use Rattle.daide_sockets.specs.Table.{Table, arming, IsPollTime}
 use Rattle.daide_sockets.specs.declared.control.Control.{Control}
-use Rattle.daide_sockets.specs.declared.control.ControlListener.{ControlListener}
 use Rattle.daide_sockets.specs.declared.control_connection.ControlConnection.{ControlConnection}
+use Rattle.daide_sockets.specs.declared.listener.Listener.{Listener}
 use Rattle.daide_sockets.proofs.InTimeLemmas.{each_in_time}
 
 abbrev Armed : Type 0
@@ -29,13 +29,13 @@ first_in_time table work due others time lasts =
     All-head (λ (one : Armed). IsInTimeFor table.reading time one.0 one.1) (work, due) others
     (each_in_time table ((work, due) ∷ others) time lasts)
 
-same_clock : (table : Table) (has_room : Bool) (found : Option ControlListener) →
+same_clock : (table : Table) (has_room : Bool) (found : Option Listener) →
     (arming_listener table has_room found).reading ≡ table.reading
 same_clock table has_room None = refl
 same_clock table true (Some listener) = refl
 same_clock table false (Some listener) = refl
 
-abbrev listener_or : ControlListener → Option ControlListener → ControlListener
+abbrev listener_or : Listener → Option Listener → Listener
 listener_or other None = other
 listener_or other (Some listener) = listener
 
@@ -73,17 +73,17 @@ module _ {S : Type 0} where
       (beside rest others next time lasts)) (places_in_time rest others next time lasts)
 
   listener_in_time : (rest : List (Option (ControlConnection S))) (others : List Armed) (table : Table)
-      (has_room : Bool) (found : Option ControlListener) (time : Option Duration) →
+      (has_room : Bool) (found : Option Listener) (time : Option Duration) →
       IsPollTime true (arming_all (arming_places (arming_listener table has_room found) rest) others) time →
-      (listener : ControlListener) → has_room ≡ true → found ≡ Some listener →
-      IsInTimeFor table.reading time (may_accept_control table listener) listener.resumes_at
+      (listener : Listener) → has_room ≡ true → found ≡ Some listener →
+      IsInTimeFor table.reading time (is_control_due table listener) listener.resumes_at
   listener_in_time rest others table has_room None time lasts listener room there = absurd (cc)
   listener_in_time rest others table false (Some own) time lasts listener room there = absurd (cc)
   listener_in_time rest others table true (Some own) time lasts listener room there =
-      subst (λ (l : ControlListener). IsInTimeFor table.reading time (may_accept_control table l) l.resumes_at)
+      subst (λ (l : Listener). IsInTimeFor table.reading time (is_control_due table l) l.resumes_at)
       (ap (listener_or own) there)
-      (first_in_time table (may_accept_control table own) own.resumes_at (armed_in rest ++ others) time
-      (beside rest others (arming table (may_accept_control table own) own.resumes_at) time lasts))
+      (first_in_time table (is_control_due table own) own.resumes_at (armed_in rest ++ others) time
+      (beside rest others (arming table (is_control_due table own) own.resumes_at) time lasts))
 
 pub control_in_time : (S : Type 0) → ControlWaitsAreInTime S
 control_in_time S table control others time lasts =

@@ -20,9 +20,9 @@ use Rattle.daide_sockets.specs.Table.{Table, IsPollTime}
 use Rattle.daide_sockets.specs.InTime.{WaitsAreInTime, IsInTimeFor, arming_all}
 use Rattle.daide_sockets.specs.Control.{has_work_at}
 use Rattle.daide_sockets.specs.ControlInTime.{IsPlaceInTime, ControlWaitsAreInTime}
-use Rattle.daide_sockets.specs.ControlSlots.{is_place_free, has_free, may_accept_control, arming_control}
+use Rattle.daide_sockets.specs.ControlSlots.{is_place_free, has_free, is_control_due, arming_control}
 use Rattle.daide_sockets.specs.declared.control.Control.{Control}
-use Rattle.daide_sockets.specs.declared.control.ControlListener.{ControlListener}
+use Rattle.daide_sockets.specs.declared.listener.Listener.{Listener}
 use Rattle.daide_sockets.specs.declared.control_connection.ControlConnection.{ControlConnection}
 use Rattle.daide_sockets.specs.declared.control_connection.Stage.{Stage}
 use Rattle.daide_sockets.specs.declared.control_connection.Stage.TheVariants.{Reads}
@@ -32,12 +32,12 @@ never_twice : {P S : Type 0} (to_give taken : S → Option (List ℕ)) (calls : 
     SessionsComeOnce P to_give taken calls → (pair : P → Paired S) (old new : RunSockets S) (a b : P) → old.came ≡ 0 →
     pending_connects old.arrivals ≡ 0 →
     TransitsBy (Transits to_give taken calls pair) old (Connects 3 (Ready a) ∷ Connects 4 (Ready b) ∷ []) new →
-    (pair a).number ≡ 5 → (pair b).number ≡ 5 → ⊥
+    (pair a).identity.number ≡ 5 → (pair b).identity.number ≡ 5 → ⊥
 never_twice to_give taken calls law pair old new a b none no_arrivals goes first second =
-    let most : one_if_same (pair a).number 5 + (one_if_same (pair b).number 5 + 0) ≤ 1 =
+    let most : one_if_same (pair a).identity.number 5 + (one_if_same (pair b).identity.number 5 + 0) ≤ 1 =
     law pair old new (Connects 3 (Ready a) ∷ Connects 4 (Ready b) ∷ []) 5 none no_arrivals goes in
-    let one : one_if_same (pair a).number 5 ≡ 1 = ap (λ (m : ℕ). one_if_same m 5) first in
-    let other : one_if_same (pair b).number 5 ≡ 1 = ap (λ (m : ℕ). one_if_same m 5) second in
+    let one : one_if_same (pair a).identity.number 5 ≡ 1 = ap (λ (m : ℕ). one_if_same m 5) first in
+    let other : one_if_same (pair b).identity.number 5 ≡ 1 = ap (λ (m : ℕ). one_if_same m 5) second in
     absurd (omega (arith, most, one, other))
 
 -- of three that a poll watches, the second has work: the poll takes no time
@@ -111,8 +111,8 @@ control_is_read S law table control connection time second reads ready lasts =
 
 -- while the first place is free, and the listener may give a connection, a poll takes no time
 control_is_accepted : (S : Type 0) → ControlWaitsAreInTime S → (table : Table) (control : Control S)
-    (listener : ControlListener) (time : Duration) → control.slots.first ≡ None → control.listener ≡ Some listener →
-    may_accept_control table listener ≡ true → IsPollTime true (arming_control table control) (Some time) →
+    (listener : Listener) (time : Duration) → control.slots.first ≡ None → control.listener ≡ Some listener →
+    is_control_due table listener ≡ true → IsPollTime true (arming_control table control) (Some time) →
     as_nanos time ≡ 0
 control_is_accepted S law table control listener time free there ready lasts =
     ((law table control [] (Some time) lasts).listener listener (ap (λ (p : Option (ControlConnection S)).

@@ -6,6 +6,7 @@ use Rattle.daide_io.specs.declared.system.Connect.TheVariants.{Ready, Failed, Pe
 use Rattle.daide_io.specs.Streams.{StreamCall}
 use Rattle.daide_sockets.specs.Pairing.{Arriving, Paired, RunSockets, StaysPending, TakesOut, Transits, pending_connects, sum_over}
 use Rattle.daide_sockets.specs.PairedOnce.{one_if_same, handed}
+use Rattle.daide_sockets.specs.declared.present.Bot.{Bot}
 use Rattle.daide_sockets.proofs.PairingLemmas.{sum_in, sum_out, sum_stays}
 
 -- 1 if the number is not given yet
@@ -26,7 +27,7 @@ module _ {S : Type 0} (n : ℕ) where
   -- 1 if the bot at a place has the number
   abbrev numbered : Option (Arriving S) → ℕ
   numbered None = 0
-  numbered (Some arrival) = one_if_same arrival.number n
+  numbered (Some arrival) = one_if_same arrival.identity.number n
 
   abbrev left : RunSockets S → ℕ
   left sockets = sum_over numbered sockets.arrivals + to_come n sockets.came
@@ -40,7 +41,7 @@ module _ {S : Type 0} (n : ℕ) where
   none_pending (Some arrival ∷ arrivals) h = absurd (omega (arith, h))
 
   stays : (before after : Arriving S) → StaysPending before after → numbered (Some after) ≡ numbered (Some before)
-  stays before after h = ap (λ (m : ℕ). one_if_same m n) h.number
+  stays before after h = ap (λ (b : Bot). one_if_same b.number n) h.identity
 
   module _ {P : Type 0} (to_give taken : S → Option (List ℕ))
       (calls : S → Option (List StreamCall)) (pair : P → Paired S) where
@@ -58,7 +59,7 @@ module _ {S : Type 0} (n : ℕ) where
     one (Rests place ports rests) old new h = let e : left new ≡ left old = ap left h in omega (arith, e)
     one (Accepts place true) old new h =
         let a = sum_in numbered old.arrivals new.arrivals place h.arrival refl h.free h.arrivals in
-        let c : one_if_same h.arrival.number n ≡ one_if_same (old.came + 1) n =
+        let c : one_if_same h.arrival.identity.number n ≡ one_if_same (old.came + 1) n =
         ap (λ (m : ℕ). one_if_same m n) (h.number ∙ h.came) in
         let d : to_come n new.came ≡ to_come n (old.came + 1) = ap (to_come n) h.came in
         let e = next_given n old.came in
@@ -66,7 +67,8 @@ module _ {S : Type 0} (n : ℕ) where
     one (Accepts place false) old new h = let e : left new ≡ left old = ap left h in omega (arith, e)
     one (Connects place (Ready ports)) old new h =
         let a = sum_out numbered old.arrivals new.arrivals place h.0 refl h.1 in
-        let b : one_if_same (pair ports).number n ≡ one_if_same h.0.number n = ap (λ (m : ℕ). one_if_same m n) h.2.number in
+        let b : one_if_same (pair ports).identity.number n ≡ one_if_same h.0.identity.number n =
+        ap (λ (own : Bot). one_if_same own.number n) h.2.identity in
         let c : to_come n new.came ≡ to_come n old.came = ap (to_come n) h.3 in
         omega (arith, a, b, c)
     one (Connects place Failed) old new h =

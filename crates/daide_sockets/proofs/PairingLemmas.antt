@@ -11,11 +11,11 @@ use Rattle.daide_sockets.specs.Pairing.{is_vacant_in, is_vacant, one_if_arrives,
 module _ {S : Type 0} where
   -- a bot stays pending, by one call and then another
   pub same_pending : (arrival : Arriving S) → StaysPending arrival arrival
-  same_pending arrival = record { number = refl; bot = refl; server = inl refl; tried = omega arith; gives_up = refl; im_due = refl }
+  same_pending arrival = record { identity = refl; bot = refl; server = inl refl; tried = omega arith; gives_up = refl; im_due = refl }
 
   pub stays_both : (old mid new : Arriving S) → StaysPending old mid → StaysPending mid new → StaysPending old new
   stays_both old mid new h k = record {
-    number = k.number ∙ h.number;
+    identity = k.identity ∙ h.identity;
     bot = k.bot ∙ h.bot;
     server = by h.server k.server;
     tried = let first = h.tried in let second = k.tried in omega (arith, first, second);

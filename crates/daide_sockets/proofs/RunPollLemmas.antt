@@ -10,7 +10,7 @@ use Rattle.daide_io.specs.Network.{NetworkCall}
 use Rattle.daide_io.specs.ReadyQueue.{is_among, occurrences_of, is_same, one_if}
 use Rattle.daide_io.specs.declared.network.SocketEvent.{SocketEvent}
 use Rattle.daide_sockets.specs.Control.{has_control_work, control_due}
-use Rattle.daide_sockets.specs.ControlSlots.{IsControlRow, has_free, may_accept_control, places, arming_control, arming_listener, arming_places}
+use Rattle.daide_sockets.specs.ControlSlots.{IsControlRow, has_free, places, arming_control, arming_listener, arming_places}
 use Rattle.daide_sockets.specs.KeptRows.{ChangesRows}
 use Rattle.daide_sockets.specs.Rows.{AreRowsOf, KeepsClosingRows, taken_at}
 use Rattle.daide_sockets.specs.Table.{Table, IsPollTime, PollsOnce, changed, deadline_at, deadline_in, first_closing, key_of, latest, listener_key}
@@ -19,7 +19,7 @@ use Rattle.daide_sockets.specs.Times.{is_past}
 use Rattle.daide_sockets.specs.InTime.{arming_all}
 use Rattle.daide_sockets.specs.Wakeups.{GoesUnpolled, KeepsPlace, PollsForPlaces, PollsPlaces}
 use Rattle.daide_sockets.specs.declared.control.Control.{Control}
-use Rattle.daide_sockets.specs.declared.control.ControlListener.{ControlListener}
+use Rattle.daide_sockets.specs.declared.listener.Listener.{Listener}
 use Rattle.daide_sockets.specs.declared.control_connection.ControlConnection.{ControlConnection}
 use Rattle.daide_sockets.specs.declared.table.Row.{Row}
 use Rattle.daide_io.proofs.ReadyLemmas.{same_is_one}
@@ -48,7 +48,7 @@ armed_places table (Some connection ∷ rest) =
     let next = arming table (has_control_work connection) (control_due connection) in
     armed_then table next (arming_places next rest) refl (armed_places next rest)
 
-armed_listener : (table : Table) (has_room : Bool) (found : Option ControlListener) →
+armed_listener : (table : Table) (has_room : Bool) (found : Option Listener) →
     IsArmed table (arming_listener table has_room found)
 armed_listener table has_room None = refl
 armed_listener table true (Some listener) = refl

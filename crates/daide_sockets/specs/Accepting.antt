@@ -1,7 +1,6 @@
 -- The condition for an accept, and the calls on the network of which it is one. (own)
 use Rattle.std.specs.Prelude.{◌≡◌, ◌≤◌, ◌⊎◌, ℕ, zero, suc, ◌+◌, ◌&&◌, ◌||◌, not, Bool, true, false, List, length}
 use Rattle.std.specs.Prelude.{Option, Some, None, Result, Ok, Err, slice_get}
-use Rattle.std.specs.IoError.{error_kind}
 use Rattle.std.specs.declared.io.Error.{Error}
 use Rattle.std.specs.declared.io.ErrorKind.{ErrorKind}
 use Rattle.std.specs.declared.net.socket_addr.SocketAddr.{SocketAddr}
@@ -11,8 +10,7 @@ use Rattle.daide_io.specs.Network.{NetworkCall, AcceptsConnection, BeginsConnect
 use Rattle.daide_io.specs.declared.network.ConnectStatus.{ConnectStatus}
 use Rattle.daide_buffered_io.specs.declared.readiness.Readiness.{Readiness}
 use Rattle.daide_sockets.specs.declared.admission.Acceptor.{Acceptor}
-use Rattle.daide_sockets.specs.declared.admission.Declined.{Declined}
-use Rattle.daide_sockets.specs.declared.admission.Declined.TheVariants as Declines
+use Rattle.daide_sockets.specs.declared.listener.Listener.{Listener}
 use Rattle.daide_sockets.specs.Table.{Table, listener_key, merged, report_at}
 use Rattle.daide_sockets.specs.Times.{IsAfter, is_past}
 
@@ -31,27 +29,15 @@ abbrev pub Pauses : Option Instant → ErrorKind → Option Instant → Type 0
 Pauses now Kinds.WouldBlock resumes_at = resumes_at ≡ None
 Pauses now kind resumes_at = IsAfter now accept_pause resumes_at
 
--- whether an accept is made, by a listener's readiness, the report of its row, and the table's reading of the clock
-abbrev pub is_accept_due : Table → ℕ → Readiness → Option Instant → Bool
-is_accept_due table key known resumes_at =
-    is_accept_made table.reading (known.may_read || (report_at table key).may_read) resumes_at
+-- whether an accept is made, by a listener, the report of its row, and the table's reading of the clock
+abbrev pub is_accept_due : Table → ℕ → Listener → Bool
+is_accept_due table key listener =
+    is_accept_made table.reading (listener.may_accept || (report_at table key).may_read) listener.resumes_at
 
 -- whether an accept of a bot is due: the listener is not closed, it is ready, and no pause is under way
 abbrev pub is_bot_due : Table → Acceptor → Bool
 is_bot_due table acceptor =
-    not acceptor.is_closed && is_accept_due table (listener_key table) acceptor.readiness acceptor.resumes_at
-
--- what an accept is reported as: the connection, or the kind of the failure
-abbrev pub IsReportedAs : {C : Type 0} → Result (C × SocketAddr) Error → Result (C × SocketAddr) Declined → Type 0
-IsReportedAs (Ok came) result = result ≡ Ok came
-IsReportedAs (Err error) result = result ≡ Err (Declines.Failed (error_kind error))
-
--- one accept was made, and is reported
-pub record ReportsAccept {N C : Type 0} (transition : N → NetworkCall C → N → Type 0) (old new : N)
-    (result : Result (C × SocketAddr) Declined) : Type 0 where
-  pub accepted : Result (C × SocketAddr) Error
-  pub call : transition old (AcceptsConnection accepted) new
-  pub reported : IsReportedAs accepted result
+    not acceptor.is_closed && is_accept_due table (listener_key table) acceptor.listener
 
 -- the connection that an accept gave, with its peer's address, if it gave one
 abbrev pub connection_given : {C : Type 0} → Result (C × SocketAddr) Error → Option (C × SocketAddr)

@@ -45,7 +45,7 @@ closings_armed table (closing ∷ others) =
 -- The listener, as a poll watches it: whether the poll is for bots too and an accept is due; and the end of the pause of
 -- accepts.
 abbrev pub listener_armed : Table → Acceptor → Bool × Option Instant
-listener_armed table acceptor = (acceptor.awaits_bots && is_bot_due table acceptor, acceptor.resumes_at)
+listener_armed table acceptor = (acceptor.awaits_bots && is_bot_due table acceptor, acceptor.listener.resumes_at)
 
 -- ---- a poll
 

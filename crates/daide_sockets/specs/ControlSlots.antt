@@ -1,5 +1,5 @@
 -- The control connections of a run together: at most four. (own)
-use Rattle.std.specs.Prelude.{◌≡◌, ◌⊎◌, ℕ, ◌+◌, ◌<◌, Bool, true, false, ◌&&◌, ◌||◌, not, is_some, List, [], ◌∷◌, Option, Some, None, if◌then◌else◌}
+use Rattle.std.specs.Prelude.{◌≡◌, ◌⊎◌, ℕ, ◌+◌, ◌<◌, Bool, true, false, ◌||◌, List, [], ◌∷◌, Option, Some, None, if◌then◌else◌}
 use Rattle.std.specs.declared.time.Instant.{Instant}
 use Rattle.daide_io.specs.Network.{NetworkCall, AcceptsControl}
 use Rattle.daide_io.specs.Streams.{StreamCall}
@@ -12,9 +12,9 @@ use Rattle.daide_sockets.specs.Control.{Advances, ShowsOn, has_control_work, con
 use Rattle.daide_sockets.specs.Table.{Table, control_connection_key, control_key, first_closing, listener_key, merged, report_at, arming}
 use Rattle.daide_sockets.specs.Times.{IsAfter}
 use Rattle.daide_sockets.specs.declared.control.Control.{Control}
-use Rattle.daide_sockets.specs.declared.control.ControlListener.{ControlListener}
 use Rattle.daide_sockets.specs.declared.control.Slots.{Slots}
 use Rattle.daide_sockets.specs.declared.control_connection.ControlConnection.{ControlConnection}
+use Rattle.daide_sockets.specs.declared.listener.Listener.{Listener}
 use Rattle.daide_sockets.specs.declared.control_connection.Stage.TheVariants.{Reads}
 use Rattle.std.specs.Prelude.{Result}
 use Rattle.std.specs.declared.io.Error.{Error}
@@ -110,22 +110,17 @@ arming_places table [] = table
 arming_places table (place ∷ rest) = arming_places (arming_place table place) rest
 
 -- an accept of a control connection is due: its listener is ready by the table, and no pause is under way
-abbrev pub is_control_due : Table → ControlListener → Bool
-is_control_due table listener = is_accept_due table (control_key table) listener.readiness listener.resumes_at
+abbrev pub is_control_due : Table → Listener → Bool
+is_control_due table listener = is_accept_due table (control_key table) listener
 
--- whether an accept is due without a pause
-abbrev pub may_accept_control : Table → ControlListener → Bool
-may_accept_control table listener = is_control_due table listener && not (is_some listener.resumes_at)
-
--- The next poll is also to watch the listener, while a place is free: whether it may give a connection, and the end of a
--- pause.
-abbrev pub arming_listener : Table → Bool → Option ControlListener → Table
+-- The next poll is also to watch the listener, while a place is free: whether an accept is due, and the end of a pause.
+abbrev pub arming_listener : Table → Bool → Option Listener → Table
 arming_listener table has_room None = table
 arming_listener table has_room (Some listener) =
-    if has_room then arming table (may_accept_control table listener) listener.resumes_at else table
+    if has_room then arming table (is_control_due table listener) listener.resumes_at else table
 
 -- the same, if there is a listener
-abbrev pub is_listener_due : Table → Option ControlListener → Bool
+abbrev pub is_listener_due : Table → Option Listener → Bool
 is_listener_due table None = false
 is_listener_due table (Some listener) = is_control_due table listener
 

@@ -3,19 +3,14 @@ use Rattle.std.specs.Prelude.{ℕ, ◌-◌, ◌/◌, Option, Some, None, if◌th
 use Rattle.std.specs.Time.{instant_nanos}
 use Rattle.std.specs.declared.time.Instant.{Instant}
 use Rattle.daide_frame.specs.declared.side.Side.{Side}
-use Rattle.daide_frame.specs.declared.side.Side.TheVariants.{Bot, Server}
 use Rattle.daide_protocol.specs.declared.ending.Ending.TheVariants.{Ended, Lost, Final, Error, Fault, Stopped}
+use Rattle.daide_buffered_io.specs.Streams.{stream_of}
 use Rattle.daide_io.specs.declared.fault_field.FaultField.{FaultField}
 use Rattle.daide_io.specs.declared.system.Cause.{Cause}
 use Rattle.daide_io.specs.declared.system.Cause.TheVariants as Causes
 use Rattle.daide_sockets.specs.declared.session_notice.Why.{Why}
 use Rattle.daide_sockets.specs.declared.session_notice.Why.TheVariants as Whys
 use Rattle.daide_sockets.specs.declared.timed.Timed.{Timed}
-
--- a side's expired timeouts, out of those of the bot and the server
-abbrev pub timed_at : Timed × Timed → Side → Timed
-timed_at timed Bot = timed.0
-timed_at timed Server = timed.1
 
 -- a side that ended is reported as silent or stalled if it counts as ended for that
 abbrev pub why_ended : Side → Timed → ℕ → Why
@@ -32,8 +27,8 @@ why_lost side timed seconds =
 -- Any other cause is reported as it is, and a fault with the field that it is about. `seconds` is the stall timeout.
 abbrev pub why_by : Cause → Option FaultField → Timed × Timed → ℕ → Why
 why_by Causes.TurnsSpent field timed seconds = Whys.Ended Causes.TurnsSpent None
-why_by (Causes.Session (Ended side)) field timed seconds = why_ended side (timed_at timed side) seconds
-why_by (Causes.Session (Lost side)) field timed seconds = why_lost side (timed_at timed side) seconds
+why_by (Causes.Session (Ended side)) field timed seconds = why_ended side (stream_of timed side) seconds
+why_by (Causes.Session (Lost side)) field timed seconds = why_lost side (stream_of timed side) seconds
 why_by (Causes.Session (Final side)) field timed seconds = Whys.Ended (Causes.Session (Final side)) None
 why_by (Causes.Session (Error side)) field timed seconds = Whys.Ended (Causes.Session (Error side)) None
 why_by (Causes.Session (Fault side code)) field timed seconds = Whys.Ended (Causes.Session (Fault side code)) field

@@ -12,7 +12,7 @@ one_if_same one other = if nat_eq one other then 1 else 0
 -- how often ports of the session with this number were delivered
 abbrev pub handed : {P S : Type 0} → (P → Paired S) → ℕ → List (SystemCall P) → ℕ
 handed pair n [] = 0
-handed pair n (Connects place (Ready ports) ∷ trace) = one_if_same (pair ports).number n + handed pair n trace
+handed pair n (Connects place (Ready ports) ∷ trace) = one_if_same (pair ports).identity.number n + handed pair n trace
 handed pair n (Connects place Failed ∷ trace) = handed pair n trace
 handed pair n (Connects place Pending ∷ trace) = handed pair n trace
 handed pair n (Polls may_block woken orders ∷ trace) = handed pair n trace

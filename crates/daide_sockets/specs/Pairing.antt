@@ -9,16 +9,17 @@ use Rattle.daide_buffered_io.specs.Buffers.{Buffer, with_stream}
 use Rattle.daide_buffered_io.specs.declared.readiness.Readiness.{Readiness}
 use Rattle.daide_io.specs.Streams.{StreamCall, IsSameStream}
 use Rattle.std.specs.declared.time.Instant.{Instant}
+use Rattle.daide_sockets.specs.declared.present.Bot.{Bot}
 use Rattle.daide_sockets.specs.Times.{IsAfter}
 use Rattle.daide_sockets.specs.Lingering.{ClosingStream, ClosingList, IsClosingBound, begins_closing, WritesOut, ClosingsGoOn}
 
 -- ---- values
 
--- a bot whose connect to the server is pending: its session's number and its stream; the stream of the connect, if there is
--- one, and what is known of it without a call; how many of the server's addresses were tried; the deadline of the connect,
--- and that of its initial message
+-- a bot whose connect to the server is pending: who it is, and its stream; the stream of the connect, if there is one, and
+-- what is known of it without a call; how many of the server's addresses were tried; the deadline of the connect, and that
+-- of its initial message
 pub record Arriving (S : Type 0) : Type 0 where
-  pub number : ℕ
+  pub identity : Bot
   pub bot : Buffer S
   pub server : Option (Buffer S)
   pub known : Option Readiness
@@ -26,9 +27,9 @@ pub record Arriving (S : Type 0) : Type 0 where
   pub gives_up : Option Instant
   pub im_due : Option Instant
 
--- the number of a session, and the streams of its bot and of the server
+-- the bot of a session, its stream, and that of the server
 pub record Paired (S : Type 0) : Type 0 where
-  pub number : ℕ
+  pub identity : Bot
   pub bot : Buffer S
   pub server : Buffer S
 
@@ -81,15 +82,15 @@ abbrev pub IsFreshConnect : {S : Type 0} → Option (Buffer S) → Type 0
 IsFreshConnect None = Unit {0}
 IsFreshConnect (Some stream) = IsFresh stream
 
--- the ports hold this bot's stream, and that of its own connect, under its number
+-- the ports are this bot's, and hold its stream and that of its own connect
 pub record IsJoined {S : Type 0} (arrival : Arriving S) (pair : Paired S) : Type 0 where
-  pub number : pair.number ≡ arrival.number
+  pub identity : pair.identity ≡ arrival.identity
   pub bot : pair.bot ≡ arrival.bot
   pub server : arrival.server ≡ Some pair.server
 
 -- the same bot, whose connect is unchanged or began again, and of whose addresses none is tried a second time
 pub record StaysPending {S : Type 0} (old new : Arriving S) : Type 0 where
-  pub number : new.number ≡ old.number
+  pub identity : new.identity ≡ old.identity
   pub bot : new.bot ≡ old.bot
   pub server : (new.server ≡ old.server) ⊎ IsFreshConnect new.server
   pub tried : old.tried ≤ new.tried
@@ -171,7 +172,7 @@ pub record Comes {S : Type 0} (old : RunSockets S) (place : ℕ) (new : RunSocke
   pub came : new.came ≡ old.came + 1
   pub free : is_vacant old.arrivals place ≡ true
   pub arrivals : new.arrivals ≡ slice_set old.arrivals place (Some arrival)
-  pub number : arrival.number ≡ new.came
+  pub number : arrival.identity.number ≡ new.came
   pub bot : IsFresh arrival.bot
   pub server : IsFreshConnect arrival.server
   pub closing : new.closing ≡ old.closing

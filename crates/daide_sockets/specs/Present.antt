@@ -1,5 +1,5 @@
 -- The bots of a run that are there: those with a connect under way, and those of sessions. (own)
-use Rattle.std.specs.Prelude.{◌≡◌, ℕ, ◌+◌, ◌<◌, ◌==◌, nat_lt, true, List, [], ◌∷◌, ◌++◌, length, remove, slice_get, slice_set, Option, Some, None, if◌then◌else◌, vec_capacity}
+use Rattle.std.specs.Prelude.{◌≡◌, ℕ, ◌+◌, ◌<◌, ◌==◌, nat_lt, true, List, [], ◌∷◌, ◌++◌, length, remove, slice_set, Option, Some, if◌then◌else◌, vec_capacity}
 use Rattle.std.specs.Net.Socket.{socket_ip}
 use Rattle.std.specs.declared.net.socket_addr.SocketAddr.{SocketAddr}
 use Rattle.std.specs.declared.time.Instant.{Instant}
@@ -19,10 +19,6 @@ abbrev pub position_of : ℕ → List Bot → ℕ
 position_of number [] = 0
 position_of number (first ∷ others) = if first.number == number then 0 else 1 + position_of number others
 
--- the bot with a number, if it is there
-abbrev pub bot_with : ℕ → List Bot → Option Bot
-bot_with number bots = slice_get bots (position_of number bots)
-
 -- a list without its element at a position, if there is one
 abbrev pub without_at : {X : Type 0} → ℕ → List X → List X
 without_at at list = if nat_lt at (length list) then remove list at else list
@@ -30,16 +26,6 @@ without_at at list = if nat_lt at (length list) then remove list at else list
 -- the bots without the one with a number
 abbrev pub without_bot : ℕ → List Bot → List Bot
 without_bot number bots = without_at (position_of number bots) bots
-
--- the address of a bot, if there is one
-abbrev pub address_in : Option Bot → Option SocketAddr
-address_in None = None
-address_in (Some bot) = Some bot.address
-
--- the time at which a bot came, if there is one, and if there was a reading
-abbrev pub since_in : Option Bot → Option Instant
-since_in None = None
-since_in (Some bot) = bot.since
 
 -- the hosts of the bots
 abbrev pub hosts_of : List Bot → List Host
@@ -60,9 +46,9 @@ abbrev pub HasRoomForOne : Present → Type 0
 HasRoomForOne present = length present.bots.items < vec_capacity present.bots
 
 -- A bot was admitted at a place. An accept gave its connection, with this address. The connection is followed under the key
--- of the bot of the place, and is that of the bot whose connect is pending there, with this number. By this address it may come
--- beside those present before, by the ranges and the limit of `rules`. It is the last of those present, with this number, this
--- address, and this reading of the clock as the time at which it came.
+-- of the bot of the place, and is that of the bot whose connect is pending there. By this address it may come beside those present
+-- before, by the ranges and the limit of `rules`. It is the last of those present. It has this number, this address, and this
+-- reading of the clock as the time at which it came.
 pub record AdmitsBot {N C : Type 0} (transition : N → NetworkCall C → N → Type 0) (servers : List SocketAddr)
     (rules : List AddressRange × ℕ) (reading : Option Instant) (place number : ℕ) (address : SocketAddr)
     (old new : N × List (Option (Arriving C)) × Present) : Type 0 where
@@ -71,6 +57,6 @@ pub record AdmitsBot {N C : Type 0} (transition : N → NetworkCall C → N → 
   pub brings : BringsBot transition address (key_of place Sides.Bot) arrival.bot.stream old.0 mid
   pub connects : ConnectsFrom transition servers 0 arrival.tried mid new.0
   pub arrivals : new.1 ≡ slice_set old.1 place (Some arrival)
-  pub number_is : arrival.number ≡ number
+  pub identity : arrival.identity ≡ bot_from number address reading
   pub may : may_come rules.0 rules.1 (hosts_of old.2.bots.items) (host_of (socket_ip address)) ≡ true
   pub present : new.2.bots.items ≡ old.2.bots.items ++ bot_from number address reading ∷ []

@@ -46,9 +46,9 @@ run_state polled times acceptor arrivals closing = record {
 abbrev pub sockets_in : {N S : Type 0} → RunState N S → RunSockets S
 sockets_in state = record { came = state.acceptor.came; arrivals = state.arrivals; closing = state.closing }
 
--- the content of ports: the number of their session, and its streams
+-- the content of ports: the bot of their session, and its streams
 abbrev pub pair_of : {S : Type 0} → SocketPorts S → Paired S
-pair_of ports = record { number = ports.number; bot = ports.bot.stream; server = ports.server.stream }
+pair_of ports = record { identity = ports.identity; bot = ports.bot.stream; server = ports.server.stream }
 
 -- ---- accepts
 

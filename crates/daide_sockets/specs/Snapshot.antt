@@ -1,11 +1,11 @@
 -- What a status shows of a run and of its sessions. (own)
 use Rattle.std.specs.Prelude.{◌≡◌, ℕ, ◌-◌, ◌/◌, min, Bool, length, Option, Some, None}
 use Rattle.std.specs.Time.{instant_nanos}
-use Rattle.std.specs.declared.net.socket_addr.SocketAddr.{SocketAddr}
 use Rattle.std.specs.declared.time.Instant.{Instant}
 use Rattle.daide_io.specs.declared.system.SessionStatus.{SessionStatus}
 use Rattle.daide_status.specs.declared.snapshot.RunStatus.{RunStatus}
 use Rattle.daide_status.specs.declared.snapshot.SessionRow.{SessionRow}
+use Rattle.daide_sockets.specs.declared.present.Bot.{Bot}
 use Rattle.daide_sockets.specs.declared.socket.Socket.{Socket}
 
 -- a number of bots, in 32 bits
@@ -33,12 +33,12 @@ pub record IsRunStatus (came present pending lost : ℕ) (waiting stopping : Boo
   pub is_stopping : run.is_stopping ≡ stopping
   pub up : run.seconds ≡ seconds
 
--- The row of a session with this number, whose bot has this address: its status, the bytes that the sockets of its bot and
--- of the server hold, and the seconds since the last byte of each at this reading of the clock.
-pub record IsSessionRow {S : Type 0} (reading : Option Instant) (session : ℕ) (address : Option SocketAddr)
-    (sockets : Socket S × Socket S) (shown : SessionStatus) (row : SessionRow) : Type 0 where
-  pub number : row.number ≡ session
-  pub bot : address ≡ Some row.bot
+-- The row of the session of a bot: its number, the bot's address, its status, the bytes that the sockets of its bot and of the
+-- server hold, and the seconds since the last byte of each at this reading of the clock.
+pub record IsSessionRow {S : Type 0} (reading : Option Instant) (identity : Bot) (sockets : Socket S × Socket S)
+    (shown : SessionStatus) (row : SessionRow) : Type 0 where
+  pub number : row.number ≡ identity.number
+  pub bot : row.bot ≡ identity.address
   pub phase : row.phase ≡ shown.phase
   pub level : row.level ≡ shown.level
   pub account : row.account ≡ shown.account

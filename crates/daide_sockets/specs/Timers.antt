@@ -9,13 +9,14 @@ use Rattle.daide_io.specs.declared.ports.Pull.TheVariants.{Got, Idle, Ended}
 use Rattle.daide_io.specs.declared.ports.Put.{Put}
 use Rattle.daide_io.specs.declared.ports.Put.TheVariants.{Took, Failed}
 use Rattle.daide_io.specs.Ports.{PortCall, TurnBegins, Clock, Pulled, Offered}
-use Rattle.daide_buffered_io.specs.Streams.{stream_of}
+use Rattle.daide_io.specs.Streams.{StreamCall}
+use Rattle.daide_buffered_io.specs.Streams.{Transfers, stream_of}
 use Rattle.daide_sockets.specs.declared.socket.Socket.{Socket}
 use Rattle.daide_sockets.specs.declared.ports.SocketPorts.{SocketPorts}
 use Rattle.daide_sockets.specs.Lingering.{IsWriting, IsWritingOver}
 use Rattle.daide_sockets.specs.Sockets.{due_after}
 use Rattle.daide_sockets.specs.Times.{IsStallEnd, StallsNext, has_stalled, is_past}
-use Rattle.daide_sockets.specs.Wakeups.{SessionSockets}
+use Rattle.daide_sockets.specs.Wakeups.{SessionSockets, Settles}
 
 -- The sockets of a session with their deadlines; the idle timeout of its peers; whether the deadline of the initial message
 -- passed when its turn began, for the first time; and whether an operator's request stops the session in this turn.
@@ -173,3 +174,13 @@ SetsTimers (Pulled side room pull bytes) old new = SameClock old new
 SetsTimers (Offered side bytes put) old new = SameClock old new
     × PutsInTime old.sockets.reading bytes put (stream_of (both_sockets old) side) (stream_of (both_sockets new) side)
     × FlushesInTime old.sockets.reading (stream_of (swapped_sockets old) side) (stream_of (swapped_sockets new) side)
+
+-- ---- ports
+
+-- What a call does to the ports of a session: to the streams of its two sockets (`Transfers`), to what is known of them
+-- (`Settles`), and to its timers (`SetsTimers`).
+abbrev pub PortsEvolve : {S : Type 0} → (S → Option (List ℕ)) → (S → Option (List ℕ)) → (S → Option (List StreamCall)) →
+    SocketPorts S → PortCall → SocketPorts S → Type 0
+PortsEvolve to_give taken calls old call new =
+    Transfers to_give taken (old.bot.stream, old.server.stream) call (new.bot.stream, new.server.stream)
+    × Settles calls call (old.bot, old.server) (new.bot, new.server) × SetsTimers call (timers_of old) (timers_of new)

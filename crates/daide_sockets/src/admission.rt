@@ -5,28 +5,28 @@
 
 ghost use Rattle.std.specs.Duration.{as_nanos};
 ghost use Rattle.std.specs.Net.Socket.{socket_ip};
-ghost use Rattle.std.specs.Option.{is_some};
-ghost use Rattle.std.specs.Prelude.{◌≡◌, ◌≢◌, ◌⊎◌, ℕ, ◌+◌, ◌<◌, ◌≤◌, ◌++◌, ◌∷◌, [], Some, None, Err, true, false, IfOk, IfErr, IfSome, IfNone, IsSome, length};
+ghost use Rattle.std.specs.Prelude.{◌≡◌, ◌⊎◌, ℕ, ◌+◌, ◌<◌, ◌≤◌, ◌++◌, ◌∷◌, [], Some, None, Err, true, false, IfOk, IfErr, IfSome, IfNone, IsSome, length};
 ghost use Rattle.daide_buffered_io.specs.Buffers.{Buffer};
 ghost use Rattle.daide_io.specs.Network.{AsksConnect, StopsListening};
 ghost use Rattle.daide_settings.specs.Ranges.{host_of, may_come};
-ghost use Rattle.daide_sockets.specs.Accepting.{is_accept_made, is_bot_due, may_connect, accept_pause, ReportsAccept, AcceptsOnce, AcceptsOneBot, BringsBot};
+ghost use Rattle.daide_sockets.specs.Accepting.{is_bot_due, may_connect, AcceptsOnce, AcceptsOneBot, BringsBot};
 ghost use Rattle.daide_sockets.specs.Accepting.{AsksAtMostOnce, BringsNoBot, ConnectsFrom, TriesOn, GivesConnection, Pauses};
 ghost use Rattle.daide_sockets.specs.Beside.{listener_armed};
 ghost use Rattle.daide_sockets.specs.KeptRows.{ChangesRows};
 ghost use Rattle.daide_sockets.specs.Pairing.{ConnectsTo, StaysPending, IsFreshConnect, IsFresh, IsJoined, pending_connects};
 ghost use Rattle.daide_sockets.specs.Present.{HasRoomForOne, bot_from, hosts_of};
+ghost use Rattle.daide_sockets.specs.Scheduling.{pair_of};
 ghost use Rattle.daide_sockets.specs.Table.{listener_key, merged, report_at, arming};
 ghost use Rattle.daide_sockets.specs.Timers.{BeginsAt, timers_of};
-ghost use Rattle.daide_sockets.specs.Times.{IsAfter, IsStallEnd, is_past};
+ghost use Rattle.daide_sockets.specs.Times.{IsAfter, is_past};
 
+use crate::listener::Listener;
 use crate::poller::Poller;
 use crate::ports::SocketPorts;
 use crate::present::{Bot, Present};
 use crate::socket::Socket;
-use crate::table::{SocketTable, after, is_past, merged};
+use crate::table::SocketTable;
 use daide_buffered_io::pool::Pool;
-use daide_buffered_io::readiness::Readiness;
 use daide_io::duplex::Duplex;
 use daide_io::network::{ConnectStatus, Network};
 use daide_settings::{AddressRange, Host};
@@ -35,25 +35,10 @@ use std::marker::Model;
 use std::net::SocketAddr;
 use std::time::{Duration, Instant};
 
-/// The pause after a failed accept, for example for lack of descriptors, in milliseconds.
-pub(crate) const ACCEPT_PAUSE: u64 = 100;
-
-/// Why no bot was accepted.
-#[derive(Clone, Copy)]
-pub(crate) enum Declined {
-    /// No accept was made: the pause after a failed one is not over, or the listener is not ready.
-    NotMade,
-    /// An accept was made, and failed for this reason.
-    Failed(ErrorKind),
-}
-
-/// The state of the network's listener, with a pause after a failed accept.
+/// The listener for bots.
 #[derive(Drop)]
 pub struct Acceptor {
-    /// What is known of the listener without a system call.
-    readiness: Readiness,
-    /// The end of the pause after a failed accept; `None` if there is no pause.
-    resumes_at: Option<Instant>,
+    pub listener: Listener,
     /// Whether it was asked for a bot since the last poll, so that the next one is for bots too.
     awaits_bots: bool,
     /// Whether the listener is closed.
@@ -65,7 +50,7 @@ pub struct Acceptor {
 impl Acceptor {
     /// Has the listener followed. Returns `None` if the system refuses.
     pub fn new<N: Network>(poller: &mut Poller<N>) -> Option<Acceptor>
-        ensures begins { IfSome result (λ acceptor. (acceptor.came ≡ 0) × (acceptor.resumes_at ≡ None)
+        ensures begins { IfSome result (λ acceptor. (acceptor.came ≡ 0) × (acceptor.listener.resumes_at ≡ None)
             × (acceptor.awaits_bots ≡ false) × (acceptor.is_closed ≡ false)) }
         ensures table { poller.new.table ≡ poller.old.table }
     {
@@ -74,8 +59,7 @@ impl Acceptor {
             return None;
         }
         Some(Acceptor {
-            readiness: Readiness::UNKNOWN,
-            resumes_at: None,
+            listener: Listener::new(),
             awaits_bots: false,
             is_closed: false,
             came: 0,
@@ -85,18 +69,15 @@ impl Acceptor {
     /// Begins a round, in which it was not asked for a bot yet. Ends the pause after a failed accept, if its time is over
     /// at this reading of the clock.
     pub(crate) fn begin_round(&mut self, now: Option<Instant>)
-        ensures over { is_past now self.old.resumes_at ≡ true →
-            (self.new.resumes_at ≡ None) × (self.new.readiness.may_read ≡ true) }
-        ensures goes_on { is_past now self.old.resumes_at ≡ false →
+        ensures over { is_past now self.old.listener.resumes_at ≡ true →
+            self.new.listener ≡ record { may_accept = true; resumes_at = None } }
+        ensures goes_on { is_past now self.old.listener.resumes_at ≡ false →
             self.new ≡ record self.old { awaits_bots = false } }
         ensures unasked { self.new.awaits_bots ≡ false }
         ensures came { self.new.came ≡ self.old.came }
     {
         self.awaits_bots = false;
-        if is_past(now, self.resumes_at) {
-            self.resumes_at = None;
-            self.readiness.may_read = true;
-        }
+        self.listener.end_pause(now);
     }
 
     /// Has the next poll be for bots too.
@@ -113,19 +94,19 @@ impl Acceptor {
             (listener_armed table.old self.now).1 }
     {
         let is_due = self.awaits_bots && self.is_due(table);
-        table.arm(is_due, self.resumes_at);
+        table.arm(is_due, self.listener.resumes_at);
     }
 
     /// Closes the listener: no bot is accepted any more, and no poll is for one.
     pub(crate) fn close<N: Network>(&mut self, poller: &mut Poller<N>)
         ensures came { self.new.came ≡ self.old.came }
-        ensures none { (self.new.awaits_bots ≡ false) × (self.new.resumes_at ≡ None) }
+        ensures none { (self.new.awaits_bots ≡ false) × (self.new.listener.resumes_at ≡ None) }
         ensures closed { self.new.is_closed ≡ true }
         ensures table { poller.new.table ≡ poller.old.table }
         ensures closes { N.transition poller.old.network StopsListening poller.new.network }
     {
         self.awaits_bots = false;
-        self.resumes_at = None;
+        self.listener.resumes_at = None;
         self.is_closed = true;
         poller.network.stop_listening();
     }
@@ -144,25 +125,12 @@ impl Acceptor {
         self.is_closed
     }
 
-    /// Returns whether a pause after a failed accept is under way, or over and no accept was made since.
-    pub(crate) fn is_paused(&self) -> bool
-        ensures { result ≡ is_some self.now.resumes_at }
-    {
-        self.resumes_at.is_some()
-    }
-
     /// Returns whether an accept is made now: the listener is not closed, it is ready by the table, and no pause is under
     /// way.
     pub(crate) fn is_due(&self, table: &SocketTable) -> bool
         ensures { result ≡ is_bot_due table.now self.now }
     {
-        if self.is_closed {
-            return false;
-        }
-        match self.resumes_at {
-            None => self.readiness.may_read || table.report(table.listener_key()).may_read,
-            Some(_) => is_past(table.now(), self.resumes_at),
-        }
+        !self.is_closed && self.listener.is_due(table, table.listener_key())
     }
 
     /// Accepts a connection, and returns it with its address. Returns `None` if there is none. Makes no system call
@@ -195,94 +163,28 @@ impl Acceptor {
             return None;
         }
         let key = poller.table.listener_key();
-        let report = poller.table.take_report(key);
-        self.readiness = merged(self.readiness, report);
-        let accepted = self.accept_at(&mut poller.network, poller.table.now());
-        match accepted {
-            Ok(came) => Some(came),
-            Err(_) => None,
-        }
-    }
-
-    /// Accepts at this reading of the clock.
-    ///
-    /// `not_made`: it makes no call if none may give a connection, or during a pause.
-    ///
-    /// `made`: it makes one if a connection may have come and no pause is under way, or if the pause is over.
-    ///
-    /// `failed`: one that would have blocked begins no pause, and any other failure begins one of 100 ms. After either
-    /// the listener counts as not ready.
-    ///
-    /// `left`: then no accept is due any more at this reading.
-    fn accept_at<N: Network>(
-        &mut self,
-        network: &mut N,
-        now: Option<Instant>,
-    ) -> Result<(N::Connection, SocketAddr), Declined>
-        ensures not_made { is_accept_made now self.old.readiness.may_read self.old.resumes_at ≡ false →
-            (result ≡ Err Declined.NotMade) × (self.new ≡ self.old) × (network.new ≡ network.old) }
-        ensures made { is_accept_made now self.old.readiness.may_read self.old.resumes_at ≡ true →
-            IfErr result (λ declined. declined ≢ Declined.NotMade) }
-        ensures called { is_accept_made now self.old.readiness.may_read self.old.resumes_at ≡ true →
-            ReportsAccept N.transition network.old network.new result }
-        ensures given { IfOk result (λ _. GivesConnection N.transition network.old) }
-        ensures accepted { IfOk result (λ _. (self.new.resumes_at ≡ None) × (self.new.readiness.may_read ≡ true)) }
-        ensures failed { (kind : ErrorKind) → result ≡ Err (Declined.Failed kind) →
-            Pauses now kind self.new.resumes_at × (self.new.readiness.may_read ≡ false) }
-        ensures left { IfErr result (λ _. is_accept_made now self.new.readiness.may_read self.new.resumes_at ≡ false) }
-        ensures open { self.new.is_closed ≡ self.old.is_closed }
-        ensures came { self.new.came ≡ self.old.came }
-        ensures awaited { self.new.awaits_bots ≡ self.old.awaits_bots }
-    {
-        let is_made = match self.resumes_at {
-            None => self.readiness.may_read,
-            Some(_) => is_past(now, self.resumes_at),
-        };
-        if !is_made {
-            return Err(Declined::NotMade);
-        }
-        match network.accept() {
-            Ok(accepted) => {
-                self.readiness.may_read = true;
-                self.resumes_at = None;
-                Ok(accepted)
+        match poller.network.accept() {
+            Ok(came) => {
+                self.listener.note_accept(&mut poller.table, key, None);
+                Some(came)
             }
             Err(error) => {
-                self.readiness.may_read = false;
-                self.pause(now, error.kind());
-                Err(Declined::Failed(error.kind()))
+                self.listener
+                    .note_accept(&mut poller.table, key, Some(error.kind()));
+                None
             }
         }
     }
 
-    /// Starts the pause after an accept that failed for this reason; `WouldBlock` is not a failure.
-    pub fn pause(&mut self, now: Option<Instant>, why: ErrorKind)
-        ensures pauses { Pauses now why self.new.resumes_at }
-        ensures later { (self.new.resumes_at ≡ None) ⊎ IsAfter now accept_pause self.new.resumes_at }
-        ensures rest { self.new ≡ record self.old { resumes_at = self.new.resumes_at } }
-    {
-        self.resumes_at = match why {
-            ErrorKind::WouldBlock => None,
-            _ => after(now, Duration::from_millis(ACCEPT_PAUSE)),
-        };
-    }
-
-    /// Starts the pause after a refusal. Without a clock there is no pause, and an accept is due at once.
-    fn pause_after_refusal(&mut self, now: Option<Instant>)
-        ensures pauses { Pauses now ErrorKind.Other self.new.resumes_at }
-        ensures rest { self.new ≡ record self.old { resumes_at = self.new.resumes_at } }
-    {
-        self.pause(now, ErrorKind::Other);
-    }
-
-    /// Returns the next bot that came: its session's number, its socket and its address. It is added to those present.
+    /// Returns the next bot that came, and its socket. The bot is added to those present.
     ///
     /// Fails with the address of a bot that may not come by the ranges and the limit `rules`, beside those present: its
     /// connection is closed at once. The next poll does not block then, since an accept is still due: the system does not
     /// report again the bots that wait behind it. Fails with no address if none came, if the system refuses to follow it,
     /// or if all numbers are given. After a refusal a pause begins, as after a failed accept.
     ///
-    /// `one`: exactly one bot was accepted, is followed, and is counted.
+    /// `one`: exactly one bot was accepted, is followed, and is counted. It has the next number, and came at the table's reading
+    /// of the clock.
     ///
     /// `none`: no bot is counted.
     ///
@@ -307,9 +209,9 @@ impl Acceptor {
         pool: &'w Pool,
         rules: (&[AddressRange], u16),
         present: &mut Present,
-    ) -> Result<(u32, Socket<'w, N::Connection>, SocketAddr), Option<SocketAddr>>
-        ensures one { IfOk result (λ bot. (self.new.came ≡ self.old.came + 1) × (bot.0 ≡ self.new.came)
-            × IsFresh bot.1.stream) }
+    ) -> Result<(Bot, Socket<'w, N::Connection>), Option<SocketAddr>>
+        ensures one { IfOk result (λ bot. (self.new.came ≡ self.old.came + 1)
+            × (bot.0 ≡ bot_from self.new.came bot.0.address poller.old.table.reading) × IsFresh bot.1.stream) }
         ensures none { IfErr result (λ _. self.new.came ≡ self.old.came) }
         ensures once { is_bot_due poller.old.table self.old ≡ true →
             self.old.came < u32.MAX → AcceptsOneBot N.transition poller.old.network poller.new.network }
@@ -318,7 +220,7 @@ impl Acceptor {
             poller.new.network ≡ poller.old.network }
         ensures due { IfOk result (λ _. (self.old.came < u32.MAX)
             × (is_bot_due poller.old.table self.old ≡ true)) }
-        ensures accepted { IfOk result (λ bot. BringsBot N.transition bot.2 key bot.1.stream.stream poller.old.network
+        ensures accepted { IfOk result (λ bot. BringsBot N.transition bot.0.address key bot.1.stream.stream poller.old.network
             poller.new.network) }
         ensures kept { IfErr result (λ _. self.old.came < u32.MAX →
             is_bot_due poller.old.table self.old ≡ true →
@@ -327,9 +229,8 @@ impl Acceptor {
             poller.old.network poller.new.network) }
         ensures clock { poller.new.table.reading ≡ poller.old.table.reading }
         ensures allowed { IfOk result (λ bot. may_come rules.entry.0.now rules.entry.1 (hosts_of present.old.bots.items)
-            (host_of (socket_ip bot.2)) ≡ true) }
-        ensures added { IfOk result (λ bot. present.new.bots.items
-            ≡ present.old.bots.items ++ bot_from bot.0 bot.2 poller.old.table.reading ∷ []) }
+            (host_of (socket_ip bot.0.address)) ≡ true) }
+        ensures added { IfOk result (λ bot. present.new.bots.items ≡ present.old.bots.items ++ bot.0 ∷ []) }
         ensures same { IfErr result (λ _. present.new ≡ present.old) }
         ensures awaited { self.new.awaits_bots ≡ self.old.awaits_bots }
         ensures left { IfErr result (λ _. self.old.came < u32.MAX →
@@ -354,31 +255,30 @@ impl Acceptor {
         if !present.may_come(allow, most, host) {
             return Err(Some(address));
         }
-        let Some(bot) = Socket::new(poller, pool, stream, key) else {
-            self.pause_after_refusal(poller.table.now());
+        let Some(socket) = Socket::new(poller, pool, stream, key) else {
+            self.listener.pause(poller.table.now(), ErrorKind::Other);
             return Err(None);
         };
-        // The list has room for each bot of a run.
-        let since = poller.table.now();
-        if !present.add(Bot {
+        let bot = Bot {
             number,
             host,
             address,
-            since,
-        }) {
-            self.pause_after_refusal(poller.table.now());
+            since: poller.table.now(),
+        };
+        // The list has room for each bot of a run.
+        if !present.add(bot) {
+            self.listener.pause(poller.table.now(), ErrorKind::Other);
             return Err(None);
         }
         self.came = number;
-        Ok((number, bot, address))
+        Ok((bot, socket))
     }
 }
 
 /// A bot whose connect to the server is under way.
 #[derive(Drop)]
 pub(crate) struct PendingConnection<'w, S: Drop> {
-    /// The number of its session.
-    number: u32,
+    identity: Bot,
     bot: Socket<'w, S>,
     server: Option<Socket<'w, S>>,
     /// The number of addresses tried.
@@ -390,13 +290,13 @@ pub(crate) struct PendingConnection<'w, S: Drop> {
 }
 
 impl<'w, S: Drop> Model for PendingConnection<'w, S> {
-    ghost use Rattle.std.specs.Prelude.{◌≡◌, IfSome, option_map};
+    ghost use Rattle.std.specs.Prelude.{option_map};
     ghost use Rattle.daide_sockets.specs.Pairing.{Arriving};
 
     ghost Value = { Arriving S };
 
     ghost view = { λ a. record {
-      number = a.number;
+      identity = a.identity;
       bot = a.bot.stream;
       server = option_map (λ socket. socket.stream) a.server;
       known = option_map (λ socket. socket.readiness) a.server;
@@ -404,9 +304,6 @@ impl<'w, S: Drop> Model for PendingConnection<'w, S> {
       gives_up = a.gives_up;
       im_due = a.im_due;
     } };
-
-    // the connect was made for this bot
-    ghost invariant = { λ a. IfSome a.server (λ socket. socket.made_for ≡ a.number) };
 }
 
 /// Returns how many connects are under way.
@@ -422,10 +319,10 @@ pub(crate) fn pending_count<S: Drop>(arrivals: &[Option<PendingConnection<'_, S>
     count
 }
 
-/// A bot with no server reached before the deadline: the number of its session, and its socket.
+/// A bot with no server reached before the deadline, and its socket.
 #[derive(Drop)]
 pub(crate) struct Unreached<'w, S: Drop> {
-    pub number: u32,
+    pub identity: Bot,
     pub bot: Socket<'w, S>,
 }
 
@@ -457,25 +354,23 @@ fn begun<N: Network>(
     None
 }
 
-/// Creates the socket of a connect that began for the session with this number.
+/// Creates the socket of a connect that began.
 fn connecting<'w, S: Duplex + Drop>(
     begun: Option<S>,
     key: usize,
     pool: &'w Pool,
-    number: u32,
 ) -> Option<Socket<'w, S>>
-    ensures fresh { IfSome result (λ socket. IsFresh socket.stream × (socket.made_for ≡ number)
-        × (socket.readiness.may_write ≡ false)) }
+    ensures fresh { IfSome result (λ socket. IsFresh socket.stream × (socket.readiness.may_write ≡ false)) }
     ensures none { (result ≡ None → begun ≡ None) × (begun ≡ None → result ≡ None) }
 {
     match begun {
-        Some(stream) => Some(Socket::over(pool, stream, key).of_connect(number)),
+        Some(stream) => Some(Socket::over(pool, stream, key)),
         None => None,
     }
 }
 
 impl<'w, S: Duplex + Drop> PendingConnection<'w, S> {
-    /// Starts the connect of a newly accepted bot, with this number and socket, which is followed under this key.
+    /// Starts the connect of a newly accepted bot, with this socket, which is followed under this key.
     ///
     /// `calls`, `all`: connects are made to the first addresses of the server, until one begins or no address is left, and
     /// no other call.
@@ -483,10 +378,10 @@ impl<'w, S: Duplex + Drop> PendingConnection<'w, S> {
         poller: &mut Poller<N>,
         servers: &[SocketAddr],
         key: usize,
-        came: (u32, Socket<'w, S>),
+        came: (Bot, Socket<'w, S>),
         times: (Duration, Duration),
     ) -> PendingConnection<'w, S>
-        ensures number { result.number ≡ came.entry.0 }
+        ensures identity { result.identity ≡ came.entry.0 }
         ensures bot { result.bot ≡ came.entry.1.stream }
         ensures server { IsFreshConnect result.server }
         ensures calls { ConnectsFrom N.transition servers.now 0 result.tried poller.old.network poller.new.network }
@@ -495,15 +390,15 @@ impl<'w, S: Duplex + Drop> PendingConnection<'w, S> {
         ensures im_due { IsAfter poller.old.table.reading (as_nanos times.0) result.im_due }
         ensures gives_up { IsAfter poller.old.table.reading (as_nanos times.1) result.gives_up }
     {
-        let (number, bot) = came;
+        let (identity, bot) = came;
         let (im_time, connect_time) = times;
         let gives_up = poller.table.after(connect_time);
         let im_due = poller.table.after(im_time);
         let mut tried = 0;
         let begun = begun(poller, servers, key, &mut tried);
-        let server = connecting(begun, key, bot.pool, number);
+        let server = connecting(begun, key, bot.pool);
         PendingConnection {
-            number,
+            identity,
             bot,
             server,
             tried,
@@ -571,7 +466,7 @@ impl<'w, S: Duplex + Drop> PendingConnection<'w, S> {
     {
         self.server = None;
         let begun = begun(poller, servers, key, &mut self.tried);
-        self.server = connecting(begun, key, self.bot.pool, self.number);
+        self.server = connecting(begun, key, self.bot.pool);
     }
 
     /// Closes the connect once its deadline is past at the table's reading of the clock.
@@ -645,21 +540,15 @@ impl<'w, S: Duplex + Drop> PendingConnection<'w, S> {
         now: Option<Instant>,
         times: (Option<Duration>, Option<Duration>),
     ) -> Result<SocketPorts<'w, S>, Unreached<'w, S>>
-        ensures joined { IfOk result (λ ports. IsJoined self.entry (record {
-          number = ports.number;
-          bot = ports.bot.stream;
-          server = ports.server.stream;
-        })) }
+        ensures joined { IfOk result (λ ports. IsJoined self.entry (pair_of ports)) }
         ensures im_due { IfOk result (λ ports. ports.im_due ≡ self.entry.im_due) }
-        ensures silent_from { IfOk result (λ ports. IsStallEnd now times.0 ports.bot.silent_from
-            × IsStallEnd now times.0 ports.server.silent_from) }
         ensures begins { IfOk result (λ ports. BeginsAt now times (timers_of ports)) }
         ensures known { IfOk result (λ ports. self.entry.known ≡ Some ports.server.readiness) }
-        ensures unreached { IfErr result (λ left. (left.number ≡ self.entry.number)
+        ensures unreached { IfErr result (λ left. (left.identity ≡ self.entry.identity)
             × (left.bot.stream ≡ self.entry.bot) × (self.entry.server ≡ None)) }
     {
         let PendingConnection {
-            number,
+            identity,
             bot,
             server,
             tried: _,
@@ -667,23 +556,23 @@ impl<'w, S: Duplex + Drop> PendingConnection<'w, S> {
             im_due,
         } = self;
         let Some(server) = server else {
-            return Err(Unreached { number, bot });
+            return Err(Unreached { identity, bot });
         };
-        Ok(SocketPorts::new(bot, server).of_session(number, now, im_due, times))
+        Ok(SocketPorts::new(identity, (bot, server), now, im_due, times))
     }
 
     /// Gives up the connect, and returns the bot.
     pub(crate) fn give_up(self) -> Unreached<'w, S>
-        ensures { (result.number ≡ self.entry.number) × (result.bot.stream ≡ self.entry.bot) }
+        ensures { (result.identity ≡ self.entry.identity) × (result.bot.stream ≡ self.entry.bot) }
     {
         let PendingConnection {
-            number,
+            identity,
             bot,
             server: _,
             tried: _,
             gives_up: _,
             im_due: _,
         } = self;
-        Unreached { number, bot }
+        Unreached { identity, bot }
     }
 }

@@ -2,23 +2,21 @@
 //!
 //! They are read and written at each poll, each once, so no session waits for them. The next poll watches them.
 
-ghost use Rattle.std.specs.Prelude.{◌≡◌, ◌<◌, [], ◌∷◌, false, true, IfSome, None, Some};
-ghost use Rattle.daide_sockets.specs.Accepting.{Pauses};
+ghost use Rattle.std.specs.Prelude.{◌≡◌, ◌<◌, [], ◌∷◌, false, true, IfSome, None};
 ghost use Rattle.daide_sockets.specs.Snapshot.{seconds_between, or_zero};
 ghost use Rattle.daide_sockets.specs.Control.{gathers_at, stops_at, stops_now_at};
 ghost use Rattle.daide_sockets.specs.ControlSlots.{places, Each, at_some, IsControlRow, PlaceAdvances, PlacesAdvance, PlaceShows};
-ghost use Rattle.daide_sockets.specs.ControlSlots.{at_place, has_free, is_control_due, with_one, arming_place, arming_places, arming_listener};
+ghost use Rattle.daide_sockets.specs.ControlSlots.{at_place, has_free, is_control_due, with_one, arming_place, arming_places};
 ghost use Rattle.daide_sockets.specs.ControlSlots.{MakesControlAccept, AcceptsOne, arming_control, BeginsRound};
 ghost use Rattle.daide_sockets.specs.ControlSlots.{is_listener_due};
 ghost use Rattle.daide_sockets.specs.KeptRows.{ChangesRows};
 ghost use Rattle.daide_sockets.specs.Table.{Table, report_at};
 ghost use Rattle.daide_sockets.specs.Wakeups.{GoesUnpolled};
 
-use crate::admission::ACCEPT_PAUSE;
 use crate::control_connection::ControlConnection;
+use crate::listener::Listener;
 use crate::poller::Poller;
-use crate::table::{SocketTable, after, either, is_past, merged};
-use daide_buffered_io::readiness::Readiness;
+use crate::table::{SocketTable, either};
 use daide_io::duplex::Duplex;
 use daide_io::network::Network;
 use daide_io::system::Orders;
@@ -240,88 +238,37 @@ impl<S: Duplex + Drop> Slots<S> {
     }
 }
 
-/// The listener of the control socket, with a pause after a failed accept.
-#[derive(Drop)]
-struct ControlListener {
-    /// What is known of it without a system call.
-    readiness: Readiness,
-    /// The end of the pause after a failed accept; `None` if there is no pause.
-    resumes_at: Option<Instant>,
-}
-
-impl ControlListener {
-    /// Returns whether an accept is made now: the listener is ready by the table, and no pause is under way.
-    fn is_due(&self, table: &SocketTable) -> bool
-        ensures { result ≡ is_control_due table.now self.now }
-    {
-        match self.resumes_at {
-            None => self.readiness.may_read || table.report(table.control_key()).may_read,
-            Some(_) => is_past(table.now(), self.resumes_at),
-        }
+/// Accepts a connection, has it followed under this key, and returns it. Returns `None` if there is none, or if the system
+/// refuses. Makes no call if the listener is not ready, or during the pause after a refusal.
+fn accept_from<N: Network>(
+    listener: &mut Listener,
+    poller: &mut Poller<N>,
+    key: usize,
+) -> Option<N::Connection>
+    requires { IsControlRow poller.old.table key }
+    ensures made { is_control_due poller.old.table listener.old ≡ true → MakesControlAccept N.transition poller.old.network }
+    ensures not_made { is_control_due poller.old.table listener.old ≡ false →
+        (result ≡ None) × (listener.new ≡ listener.old) × (poller.new ≡ poller.old) }
+    ensures calls { GoesUnpolled N.transition poller.old.network poller.new.network }
+    ensures table { ChangesRows (IsControlRow poller.old.table) poller.old.table poller.new.table }
+{
+    let own = poller.table.control_key();
+    if !listener.is_due(&poller.table, own) {
+        return None;
     }
-
-    /// Returns true only if no accept is due, and a poll has nothing to watch for one.
-    fn rests(&self, table: &SocketTable) -> bool
-        ensures not_due { result ≡ true → is_control_due table.now self.now ≡ false }
-        ensures no_pause { result ≡ true → self.now.resumes_at ≡ None }
-    {
-        self.resumes_at.is_none() && !self.is_due(table)
-    }
-
-    /// Records an accept that failed for this reason: the listener counts as not ready, and a pause begins unless the
-    /// accept would have blocked.
-    fn pause(&mut self, now: Option<Instant>, why: ErrorKind)
-        ensures pauses { Pauses now why self.new.resumes_at }
-        ensures ready { self.new.readiness.may_read ≡ false }
-    {
-        self.readiness.may_read = false;
-        self.resumes_at = match why {
-            ErrorKind::WouldBlock => None,
-            _ => after(now, Duration::from_millis(ACCEPT_PAUSE)),
-        };
-    }
-
-    /// Accepts a connection, has it followed under this key, and returns it. Returns `None` if there is none, or if the
-    /// system refuses. Makes no call if the listener is not ready, or during the pause after a refusal.
-    fn accept<N: Network>(&mut self, poller: &mut Poller<N>, key: usize) -> Option<N::Connection>
-        requires { IsControlRow poller.old.table key }
-        ensures made { is_control_due poller.old.table self.old ≡ true → MakesControlAccept N.transition poller.old.network }
-        ensures not_made { is_control_due poller.old.table self.old ≡ false →
-            (result ≡ None) × (self.new ≡ self.old) × (poller.new ≡ poller.old) }
-        ensures calls { GoesUnpolled N.transition poller.old.network poller.new.network }
-        ensures table { ChangesRows (IsControlRow poller.old.table) poller.old.table poller.new.table }
-    {
-        if !self.is_due(&poller.table) {
+    let mut connection = match poller.network.accept_control() {
+        Ok(connection) => connection,
+        Err(error) => {
+            listener.note_accept(&mut poller.table, own, Some(error.kind()));
             return None;
         }
-        let own = poller.table.control_key();
-        let report = poller.table.take_report(own);
-        self.readiness = merged(self.readiness, report);
-        self.resumes_at = None;
-        let mut connection = match poller.network.accept_control() {
-            Ok(connection) => connection,
-            Err(error) => {
-                self.pause(poller.table.now(), error.kind());
-                return None;
-            }
-        };
-        self.readiness.may_read = true;
-        if !poller.follow(&mut connection, key) {
-            self.pause(poller.table.now(), ErrorKind::Other);
-            return None;
-        }
-        Some(connection)
+    };
+    listener.note_accept(&mut poller.table, own, None);
+    if !poller.follow(&mut connection, key) {
+        listener.pause(poller.table.now(), ErrorKind::Other);
+        return None;
     }
-
-    /// Has the next poll watch the listener, if a place is free.
-    fn arm(&self, table: &mut SocketTable, has_room: bool)
-        ensures { table.new ≡ arming_listener table.old has_room (Some self.now) }
-    {
-        if has_room {
-            let may_accept = self.is_due(table) && self.resumes_at.is_none();
-            table.arm(may_accept, self.resumes_at);
-        }
-    }
+    Some(connection)
 }
 
 /// The control socket of a run.
@@ -331,7 +278,7 @@ impl ControlListener {
 pub struct Control<S: Duplex + Drop> {
     alloc: Global,
     /// `None` if the run has no control socket.
-    listener: Option<ControlListener>,
+    listener: Option<Listener>,
     slots: Slots<S>,
     /// Whether a stop was requested.
     stops_accepting: bool,
@@ -342,15 +289,12 @@ pub struct Control<S: Duplex + Drop> {
 }
 
 /// Has the listener of the control socket followed, if the network has one. Returns `None` if the system refuses.
-fn listener_of<N: Network>(poller: &mut Poller<N>) -> Option<Option<ControlListener>>
+fn listener_of<N: Network>(poller: &mut Poller<N>) -> Option<Option<Listener>>
     ensures { poller.new.table ≡ poller.old.table }
 {
     let key = poller.table.control_key();
     match poller.network.listen_for_control(key) {
-        Some(true) => Some(Some(ControlListener {
-            readiness: Readiness::UNKNOWN,
-            resumes_at: None,
-        })),
+        Some(true) => Some(Some(Listener::new())),
         Some(false) => None,
         None => Some(None),
     }
@@ -393,7 +337,7 @@ impl<S: Duplex + Drop> Control<S> {
             return;
         }
         let key = poller.table.control_connection_key(self.slots.first_free());
-        let Some(stream) = listener.accept(poller, key) else {
+        let Some(stream) = accept_from(listener, poller, key) else {
             return;
         };
         let closes_at = poller.table.after(Duration::from_secs(CONTROL_SECONDS));
@@ -405,7 +349,10 @@ impl<S: Duplex + Drop> Control<S> {
         ensures { table.new ≡ arming_control table.old self.now }
     {
         if let Some(listener) = &self.listener {
-            listener.arm(table, self.slots.has_room());
+            if self.slots.has_room() {
+                let is_due = listener.is_due(table, table.control_key());
+                table.arm(is_due, listener.resumes_at);
+            }
         }
         self.slots.arm(table);
     }
@@ -418,7 +365,7 @@ impl<S: Duplex + Drop> Control<S> {
         ensures armed { result ≡ true → table.now ≡ arming_control table.now self.now }
     {
         let rests = match &self.listener {
-            Some(listener) => listener.rests(table),
+            Some(listener) => listener.rests(table, table.control_key()),
             None => true,
         };
         rests && self.slots.are_free()

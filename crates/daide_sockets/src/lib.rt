@@ -3,7 +3,7 @@
 //! Only the loop's own wait blocks. The sockets are over any `Network`; `os_network` is that of the operating system,
 //! with `connection` as a full-duplex stream. `socket` is a connection with its readiness and its deadlines, and `ports`
 //! are the two of a session. `table` has what polls reported of each socket and what the next wait watches, and `poller`
-//! polls the network into it. `admission` accepts bots and connects them, and `present` has the hosts and the addresses of those
+//! polls the network into it. `listener` says when an accept is made, `admission` accepts bots and connects them, and `present` has the hosts and the addresses of those
 //! that are there. `control` is the control socket, with `control_connection`, `control_request` and `control_answer`.
 //! `lingering_close` closes in stages, `session_notice` has the log lines of a session, `timed` the timeouts that it
 //! reports, and `capacity` the lines of a run that is full. `system` combines them for the loop, and `bound_sockets`
@@ -25,10 +25,11 @@ pub mod control_listener;
 mod control_request;
 pub mod laws;
 pub mod lingering_close;
+pub mod listener;
 pub mod os_network;
 pub mod poller;
 pub mod ports;
-mod present;
+pub mod present;
 pub mod session_notice;
 pub mod socket;
 pub mod system;

@@ -19,6 +19,7 @@ ghost use Rattle.daide_sockets.specs.Lingering.{Discards, is_released, LingersOn
 ghost use Rattle.daide_sockets.specs.Lingering.{in_pass, LooksAround, GoOnFor};
 ghost use Rattle.daide_sockets.specs.Pairing.{ClosesAt, ClosesBothAt, with_room};
 ghost use Rattle.daide_sockets.specs.Rows.{AreRowsOf, KeepsClosingRows, closing_keys};
+ghost use Rattle.daide_sockets.specs.Scheduling.{pair_of};
 ghost use Rattle.daide_sockets.specs.Table.{IsFull, TakesRow, freed, report_at, arming, without_report, without_reports};
 
 use crate::poller::Poller;
@@ -481,11 +482,8 @@ impl<'w, S: Duplex + Drop> Closings<'w, S> {
         place: usize,
         ports: SocketPorts<'w, S>,
     )
-        ensures closes { ClosesBothAt S.to_give S.taken S.calls poller.old.table.reading self.old (record {
-          number = ports.entry.number;
-          bot = ports.entry.bot.stream;
-          server = ports.entry.server.stream;
-        }) self.new }
+        ensures closes { ClosesBothAt S.to_give S.taken S.calls poller.old.table.reading self.old
+            (pair_of ports.entry) self.new }
         ensures calls { (mid : N)
             × FollowsAtMostOnce N.transition ports.entry.bot.stream.stream poller.old.network mid
             × FollowsAtMostOnce N.transition ports.entry.server.stream.stream mid poller.new.network }

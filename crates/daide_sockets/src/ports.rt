@@ -5,7 +5,7 @@
 //! writes.
 
 ghost use Rattle.std.specs.Prelude.{◌≡◌, ◌≢◌, ◌+◌, ◌<◌, ◌||◌, ◌&&◌, IsNone, None, [], min, length, take, not, true, false};
-ghost use Rattle.daide_frame.specs.declared.side.Side.TheVariants.{Bot, Server};
+ghost use Rattle.daide_frame.specs.declared.side.Side.TheVariants as Sides;
 ghost use Rattle.daide_io.specs.Ports.{TurnBegins, Clock as Popped, Pulled, Offered, IsPullWithin, IsPutWithin, pulled_len};
 ghost use Rattle.daide_buffered_io.specs.Buffers.{Passes, ReadsNothing, IsBufferedPull, IsFlushed};
 ghost use Rattle.daide_buffered_io.specs.Calls.{OnlyPuts};
@@ -14,13 +14,13 @@ ghost use Rattle.daide_buffered_io.specs.Taking.{bytes_taken};
 ghost use Rattle.daide_sockets.specs.Lingering.{IsWriting};
 ghost use Rattle.daide_sockets.specs.Sockets.{read_if, due_after};
 ghost use Rattle.daide_sockets.specs.Table.{key_of, merged, report_at, without_reports};
-ghost use Rattle.daide_sockets.specs.Timers.{BeginsAt, PullsInTime, PutsInTime, FlushesInTime, BeginsInTime, SetsTimers, clock_event, is_got, timers_of};
+ghost use Rattle.daide_sockets.specs.Timers.{BeginsAt, PullsInTime, PutsInTime, FlushesInTime, BeginsInTime, SetsTimers, PortsEvolve, clock_event, is_got, timers_of};
 ghost use Rattle.daide_sockets.specs.Times.{IsStallEnd, has_stalled, is_past};
 ghost use Rattle.daide_sockets.specs.Wakeups.{StaysUnread, IsPulled, IsOffered, Settles, TakesReports, may_session_go_on, session_due};
 
+use crate::present::Bot;
 use crate::socket::{Socket, TurnsHeld};
 use crate::table::{SocketTable, is_past, merged, timeout_end};
-use crate::timed::Timed;
 use daide_buffered_io::readiness::Readiness;
 use daide_frame::side::Side;
 use daide_io::deadline::earlier;
@@ -201,8 +201,8 @@ fn put_or_flush_peer<S: Duplex + Drop>(
 /// calls returned.
 #[derive(Drop)]
 pub struct SocketPorts<'w, S: Drop> {
-    /// The number of the session, from 1, in the order in which the run accepted its bots; 0 outside a run.
-    number: u32,
+    /// The bot whose session it is.
+    identity: Bot,
     idle: IdleTimeout,
     held_for_bot: TurnsHeld,
     held_for_server: TurnsHeld,
@@ -219,27 +219,39 @@ pub struct SocketPorts<'w, S: Drop> {
 }
 
 impl<'w, S: Drop> SocketPorts<'w, S> {
-    /// Creates the ports of a bot and its server.
-    pub fn new(bot: Socket<'w, S>, server: Socket<'w, S>) -> SocketPorts<'w, S>
-        ensures bot { result.bot.stream ≡ bot.entry.stream }
-        ensures server { result.server.stream ≡ server.entry.stream }
-        ensures number { result.number ≡ 0 }
-        ensures patient { IsNone result.idle.time }
-        ensures no_im { IsNone result.im_due }
+    /// Creates the ports of a bot's session from its socket and that of the server. The session begins at this reading of the
+    /// clock, with this deadline of its initial message. The first time is the idle timeout of both sides, the second their stall
+    /// timeout; `None` if there is none.
+    pub fn new(
+        identity: Bot,
+        sockets: (Socket<'w, S>, Socket<'w, S>),
+        now: Option<Instant>,
+        im_due: Option<Instant>,
+        times: (Option<Duration>, Option<Duration>),
+    ) -> SocketPorts<'w, S>
+        ensures identity { result.identity ≡ identity }
+        ensures streams { (result.bot.stream ≡ sockets.entry.0.stream) × (result.server.stream ≡ sockets.entry.1.stream) }
+        ensures im_due { result.im_due ≡ im_due }
         ensures goes_on { result.is_stopped ≡ false }
-        ensures timed { (result.bot.timed ≡ bot.entry.timed) × (result.server.timed ≡ server.entry.timed) }
-        ensures keys { (result.bot.key ≡ bot.entry.key) × (result.server.key ≡ server.entry.key) }
-        ensures known { (result.bot.readiness ≡ bot.entry.readiness) × (result.server.readiness ≡ server.entry.readiness) }
+        ensures timed { (result.bot.timed ≡ sockets.entry.0.timed) × (result.server.timed ≡ sockets.entry.1.timed) }
+        ensures begins { BeginsAt now times (timers_of result) }
+        ensures keys { (result.bot.key ≡ sockets.entry.0.key) × (result.server.key ≡ sockets.entry.1.key) }
+        ensures known { (result.bot.readiness ≡ sockets.entry.0.readiness)
+            × (result.server.readiness ≡ sockets.entry.1.readiness) }
     {
+        let (mut bot, mut server) = sockets;
+        let (time, stall_time) = times;
+        let idle = IdleTimeout { reading: now, time };
+        bot.restart_stall(stall_time);
+        server.restart_stall(stall_time);
+        bot.silent_from = idle.end();
+        server.silent_from = idle.end();
         SocketPorts {
-            number: 0,
-            idle: IdleTimeout {
-                reading: None,
-                time: None,
-            },
+            identity,
+            idle,
             held_for_bot: TurnsHeld::NONE,
             held_for_server: TurnsHeld::NONE,
-            im_due: None,
+            im_due,
             im_timer_expired: false,
             is_stopped: false,
             stops: false,
@@ -248,67 +260,11 @@ impl<'w, S: Drop> SocketPorts<'w, S> {
         }
     }
 
-    /// Returns these ports as those of a session of a run, with this number, which begins at this reading of the clock.
-    /// The first time is the idle timeout of both sides, the second their stall timeout; `None` if there is none.
-    pub fn of_session(
-        self,
-        number: u32,
-        now: Option<Instant>,
-        im_due: Option<Instant>,
-        times: (Option<Duration>, Option<Duration>),
-    ) -> SocketPorts<'w, S>
-        ensures bot { result.bot.stream ≡ self.entry.bot.stream }
-        ensures server { result.server.stream ≡ self.entry.server.stream }
-        ensures number { result.number ≡ number }
-        ensures time { result.idle.time ≡ times.0 }
-        ensures im_due { result.im_due ≡ im_due }
-        ensures silent_from { IsStallEnd now times.0 result.bot.silent_from
-            × IsStallEnd now times.0 result.server.silent_from }
-        ensures stall_time { (result.bot.stall_time ≡ times.1) × (result.server.stall_time ≡ times.1) }
-        ensures timed { (result.bot.timed ≡ self.entry.bot.timed) × (result.server.timed ≡ self.entry.server.timed) }
-        ensures goes_on { result.is_stopped ≡ self.entry.is_stopped }
-        ensures begins { BeginsAt now times (timers_of result) }
-        ensures keys { (result.bot.key ≡ self.entry.bot.key) × (result.server.key ≡ self.entry.server.key) }
-        ensures known { (result.bot.readiness ≡ self.entry.bot.readiness)
-            × (result.server.readiness ≡ self.entry.server.readiness) }
+    /// Returns the bot whose session it is.
+    pub fn identity(&self) -> Bot
+        ensures { result ≡ self.now.identity }
     {
-        let (time, stall_time) = times;
-        let SocketPorts {
-            number: _,
-            idle: _,
-            held_for_bot,
-            held_for_server,
-            im_due: _,
-            im_timer_expired,
-            is_stopped,
-            stops,
-            mut bot,
-            mut server,
-        } = self;
-        let idle = IdleTimeout { reading: now, time };
-        bot.restart_stall(stall_time);
-        server.restart_stall(stall_time);
-        bot.silent_from = idle.end();
-        server.silent_from = idle.end();
-        SocketPorts {
-            number,
-            idle,
-            held_for_bot,
-            held_for_server,
-            im_due,
-            im_timer_expired,
-            is_stopped,
-            stops,
-            bot,
-            server,
-        }
-    }
-
-    /// Returns the number of the session.
-    pub fn number(&self) -> u32
-        ensures { result ≡ self.now.number }
-    {
-        self.number
+        self.identity
     }
 
     /// Stops the session, if it was not stopped before: the clock reports that in this turn, and in no later one. No byte
@@ -320,47 +276,21 @@ impl<'w, S: Drop> SocketPorts<'w, S> {
         self.is_stopped = true;
     }
 
-    /// Returns the number of bytes that are held for the bot, and for the server.
-    pub(crate) fn queued(&self) -> (usize, usize)
-        ensures bot { result.0 ≡ length self.now.bot.stream.write_buffer }
-        ensures server { result.1 ≡ length self.now.server.stream.write_buffer }
-    {
-        (
-            self.bot.stream.queued_len(),
-            self.server.stream.queued_len(),
-        )
-    }
-
-    /// Returns the reading of the clock at which the bot last sent something, and the server; `None` if it has sent nothing.
-    pub(crate) fn heard_at(&self) -> (Option<Instant>, Option<Instant>)
-        ensures { result ≡ (self.now.bot.heard_at, self.now.server.heard_at) }
-    {
-        (self.bot.heard_at, self.server.heard_at)
-    }
-
-    /// Returns the expired timeouts of the bot's socket and of the server's.
-    pub fn timed(&self) -> (Timed, Timed)
-        ensures { result ≡ (self.now.bot.timed, self.now.server.timed) }
-    {
-        (self.bot.timed, self.server.timed)
-    }
-
-    /// Returns the connections to the bot and to the server.
-    pub fn connections(&self) -> (&S, &S)
-        ensures bot { result.0.now ≡ self.now.bot.stream.stream }
-        ensures server { result.1.now ≡ self.now.server.stream.stream }
-    {
-        (self.bot.connection(), self.server.connection())
-    }
-
     /// Returns the sockets of the bot and of the server.
+    pub fn sockets(&self) -> (&Socket<'w, S>, &Socket<'w, S>)
+        ensures { (result.0.now ≡ self.now.bot) × (result.1.now ≡ self.now.server) }
+    {
+        (&self.bot, &self.server)
+    }
+
+    /// Gives up the ports, and returns the sockets of the bot and of the server.
     pub fn into_sockets(self) -> (Socket<'w, S>, Socket<'w, S>)
         ensures bot { result.0.stream ≡ self.entry.bot.stream }
         ensures server { result.1.stream ≡ self.entry.server.stream }
         ensures keys { (result.0.key ≡ self.entry.bot.key) × (result.1.key ≡ self.entry.server.key) }
     {
         let SocketPorts {
-            number: _,
+            identity: _,
             idle: _,
             held_for_bot: _,
             held_for_server: _,
@@ -399,13 +329,12 @@ impl<'w, S: Drop> SocketPorts<'w, S> {
 
     /// Counts the beginning of a turn at this reading of the clock. Makes no system call.
     fn count_turn(&mut self, now: Option<Instant>)
-        ensures bot { self.new.bot ≡ self.old.bot }
-        ensures server { self.new.server ≡ self.old.server }
-        ensures number { self.new.number ≡ self.old.number }
-        ensures idle { self.new.idle ≡ record self.old.idle { reading = now } }
-        ensures im { self.new.im_due ≡ self.old.im_due }
-        ensures goes_on { self.new.is_stopped ≡ self.old.is_stopped }
-        ensures once { self.new.stops ≡ false }
+        ensures { self.new ≡ record self.old {
+          stops = false;
+          idle = record self.old.idle { reading = now };
+          held_for_bot = self.new.held_for_bot;
+          held_for_server = self.new.held_for_server;
+        } }
     {
         self.stops = false;
         self.idle.reading = now;
@@ -418,10 +347,10 @@ impl<S: Duplex + Drop> SocketPorts<'_, S> {
     /// Takes the reports of both rows of the session's place.
     pub(crate) fn take_reports(&mut self, place: usize, table: &mut SocketTable)
         ensures bot { self.new.bot ≡ record self.old.bot {
-          readiness = merged self.old.bot.readiness (report_at table.old (key_of place Bot));
+          readiness = merged self.old.bot.readiness (report_at table.old (key_of place Sides.Bot));
         } }
         ensures server { self.new.server ≡ record self.old.server {
-          readiness = merged self.old.server.readiness (report_at table.old (key_of place Server));
+          readiness = merged self.old.server.readiness (report_at table.old (key_of place Sides.Server));
         } }
         ensures rest { self.new ≡ record self.old { bot = self.new.bot; server = self.new.server } }
         ensures streams { (self.new.bot.stream ≡ self.old.bot.stream) × (self.new.server.stream ≡ self.old.server.stream) }
@@ -443,11 +372,7 @@ impl<S: Duplex + Drop> SocketPorts<'_, S> {
         ensures ends { (self.new.bot.timed.ends_stalled ≡ self.old.bot.timed.ends_stalled)
             × (self.new.server.timed.ends_stalled ≡ self.old.server.timed.ends_stalled) }
         ensures gathering { (self.new.bot.is_gathering ≡ false) × (self.new.server.is_gathering ≡ false) }
-        ensures number { self.new.number ≡ self.old.number }
-        ensures idle { self.new.idle ≡ self.old.idle }
-        ensures im { self.new.im_due ≡ self.old.im_due }
-        ensures goes_on { self.new.is_stopped ≡ self.old.is_stopped }
-        ensures stops { self.new.stops ≡ self.old.stops }
+        ensures rest { self.new ≡ record self.old { bot = self.new.bot; server = self.new.server } }
         ensures bot_time { BeginsInTime self.old.idle.reading self.old.bot self.new.bot }
         ensures server_time { BeginsInTime self.old.idle.reading self.old.server self.new.server }
         ensures bot_writes { OnlyPuts S.calls self.old.bot.readiness self.old.bot.stream.stream self.new.bot.readiness
@@ -463,14 +388,10 @@ impl<S: Duplex + Drop> SocketPorts<'_, S> {
 
     /// Reads the deadline of the initial message. It expires once: in the first turn that begins at or after it.
     fn read_deadline(&mut self)
-        ensures bot { self.new.bot ≡ self.old.bot }
-        ensures server { self.new.server ≡ self.old.server }
-        ensures number { self.new.number ≡ self.old.number }
-        ensures idle { self.new.idle ≡ self.old.idle }
-        ensures expires { self.new.im_timer_expired ≡ is_past self.old.idle.reading self.old.im_due }
-        ensures once { self.new.im_due ≡ due_after self.old.idle.reading self.old.im_due }
-        ensures goes_on { self.new.is_stopped ≡ self.old.is_stopped }
-        ensures stops { self.new.stops ≡ self.old.stops }
+        ensures { self.new ≡ record self.old {
+          im_timer_expired = is_past self.old.idle.reading self.old.im_due;
+          im_due = due_after self.old.idle.reading self.old.im_due;
+        } }
     {
         self.im_timer_expired = is_past(self.idle.reading, self.im_due);
         if self.im_timer_expired {
@@ -493,7 +414,7 @@ impl<S: Duplex + Drop> SocketPorts<'_, S> {
         ensures ends { (self.new.bot.timed.ends_stalled ≡ self.old.bot.timed.ends_stalled)
             × (self.new.server.timed.ends_stalled ≡ self.old.server.timed.ends_stalled) }
         ensures gathering { (self.new.bot.is_gathering ≡ false) × (self.new.server.is_gathering ≡ false) }
-        ensures number { self.new.number ≡ self.old.number }
+        ensures identity { self.new.identity ≡ self.old.identity }
         ensures idle { self.new.idle ≡ record self.old.idle { reading = table.old.reading } }
         ensures expires { self.new.im_timer_expired ≡ is_past table.old.reading self.old.im_due }
         ensures once { self.new.im_due ≡ due_after table.old.reading self.old.im_due }
@@ -524,19 +445,12 @@ fn clock_event(stops: bool, im_timer_expired: bool) -> ClockEvent
 }
 
 impl<S: Duplex + Drop> Ports for SocketPorts<'_, S> {
-    ghost transition = { λ old call new. Transfers S.to_give S.taken (old.bot.stream, old.server.stream) call
-        (new.bot.stream, new.server.stream) × Settles S.calls call (old.bot, old.server) (new.bot, new.server)
-        × SetsTimers call (timers_of old) (timers_of new) };
+    ghost transition = { λ old call new. PortsEvolve S.to_give S.taken S.calls old call new };
 
     fn pull(&mut self, side: Side, buffer: &mut [u8]) -> Pull
         ensures within { IsPullWithin result (length buffer.old) }
-        ensures transition { Transfers S.to_give S.taken (self.old.bot.stream, self.old.server.stream)
-            (Pulled side (length buffer.old) result (take (pulled_len result) buffer.new))
-            (self.new.bot.stream, self.new.server.stream)
-            × Settles S.calls (Pulled side (length buffer.old) result (take (pulled_len result) buffer.new))
-            (self.old.bot, self.old.server) (self.new.bot, self.new.server)
-            × SetsTimers (Pulled side (length buffer.old) result (take (pulled_len result) buffer.new))
-            (timers_of self.old) (timers_of self.new) }
+        ensures transition { PortsEvolve S.to_give S.taken S.calls self.old
+            (Pulled side (length buffer.old) result (take (pulled_len result) buffer.new)) self.new }
         ensures asked { (stream_of (self.new.bot, self.new.server) side).timed.is_silent ≡ false →
             (stream_of (self.new.bot, self.new.server) side).timed.ends_stalled ≡ false →
             IsBufferedPull S.calls (length buffer.old) (read_if (has_stalled self.old.idle.time self.old.idle.reading
@@ -557,10 +471,7 @@ impl<S: Duplex + Drop> Ports for SocketPorts<'_, S> {
 
     fn put(&mut self, side: Side, bytes: &[u8]) -> Put
         ensures within { IsPutWithin result (length bytes.now) }
-        ensures transition { Transfers S.to_give S.taken (self.old.bot.stream, self.old.server.stream)
-            (Offered side bytes.now result) (self.new.bot.stream, self.new.server.stream)
-            × Settles S.calls (Offered side bytes.now result) (self.old.bot, self.old.server) (self.new.bot, self.new.server)
-            × SetsTimers (Offered side bytes.now result) (timers_of self.old) (timers_of self.new) }
+        ensures transition { PortsEvolve S.to_give S.taken S.calls self.old (Offered side bytes.now result) self.new }
         ensures written { result ≡ Put.Took 0 → ((stream_of (self.old.server, self.old.bot) side).is_gathering
             && (stream_of (self.old.server, self.old.bot) side).has_pulled) ≡ false →
             IsWriting (stream_of (self.old.server, self.old.bot) side).stream →
@@ -582,10 +493,7 @@ impl<S: Duplex + Drop> Ports for SocketPorts<'_, S> {
 
     fn clock(&mut self, is_spent: bool) -> ClockEvent
         ensures stops { is_spent ≡ true → result ≡ ClockEvent.StopIsRequested }
-        ensures transition { Transfers S.to_give S.taken (self.old.bot.stream, self.old.server.stream) (Popped result)
-            (self.new.bot.stream, self.new.server.stream)
-            × Settles S.calls (Popped result) (self.old.bot, self.old.server) (self.new.bot, self.new.server)
-            × SetsTimers (Popped result) (timers_of self.old) (timers_of self.new) }
+        ensures transition { PortsEvolve S.to_give S.taken S.calls self.old (Popped result) self.new }
         ensures answer { result ≡ clock_event (is_spent || self.old.stops) self.old.im_timer_expired }
         ensures same { self.new ≡ self.old }
     {

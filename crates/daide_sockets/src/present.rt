@@ -2,14 +2,14 @@
 
 ghost use Rattle.std.specs.Prelude.{◌≡◌, ◌++◌, ◌∷◌, [], true, false, IfSome, length};
 ghost use Rattle.daide_settings.specs.Ranges.{count_at, may_come as is_let_in, same_host};
-ghost use Rattle.daide_sockets.specs.Present.{HasRoomForOne, address_in, bot_with, hosts_of, position_of, since_in, without_at, without_bot};
+ghost use Rattle.daide_sockets.specs.Present.{HasRoomForOne, hosts_of, position_of, without_at, without_bot};
 
 use daide_settings::{AddressRange, Host, may_come};
 use std::alloc::Global;
 use std::net::SocketAddr;
 use std::time::Instant;
 
-/// A bot that is there.
+/// A bot that was accepted.
 #[derive(Clone, Copy)]
 pub struct Bot {
     /// The number of its session.
@@ -92,27 +92,6 @@ impl Present {
         ensures { result ≡ length self.now.bots.items }
     {
         self.bots.len()
-    }
-
-    /// Returns the address of the bot with this number, if it is there.
-    pub(crate) fn address_of(&self, number: u32) -> Option<SocketAddr>
-        ensures { result ≡ address_in (bot_with number self.now.bots.items) }
-    {
-        match self.bots.get(position_of(number, self.bots.as_slice())) {
-            Some(bot) => Some(bot.address),
-            None => None,
-        }
-    }
-
-    /// Returns the reading of the clock at which the bot with this number came; `None` if it is not there, or if there
-    /// was no reading.
-    pub(crate) fn came_at(&self, number: u32) -> Option<Instant>
-        ensures { result ≡ since_in (bot_with number self.now.bots.items) }
-    {
-        match self.bots.get(position_of(number, self.bots.as_slice())) {
-            Some(bot) => bot.since,
-            None => None,
-        }
     }
 
     /// Adds a bot. Returns false if there is no room for it, and changes nothing then.

@@ -63,8 +63,6 @@ pub struct Socket<'w, S: Drop> {
     pub(crate) has_pulled: bool,
     /// Whether a read or a write since its turn began must be tried again, since it was interrupted each time.
     pub(crate) tries_again: bool,
-    /// The number of the session whose connect created it; 0 if no connect of a run did.
-    pub(crate) made_for: u32,
 }
 
 impl<'w, S: Duplex + Drop> Socket<'w, S> {
@@ -135,19 +133,7 @@ impl<'w, S: Drop> Socket<'w, S> {
             is_gathering: false,
             has_pulled: false,
             tries_again: false,
-            made_for: 0,
         }
-    }
-
-    /// Records that the connect of the session with this number created the socket.
-    pub(crate) fn of_connect(self, number: u32) -> Socket<'w, S>
-        ensures stream { result.stream ≡ self.entry.stream }
-        ensures made_for { result.made_for ≡ number }
-        ensures known { (result.key ≡ self.entry.key) × (result.readiness ≡ self.entry.readiness) }
-    {
-        let mut socket = self;
-        socket.made_for = number;
-        socket
     }
 
     /// Starts the stall timeout of its peer again, with this time; `None` for never.

@@ -2,13 +2,12 @@
 
 ghost use Rattle.std.specs.Net.Socket.{socket_ip};
 ghost use Rattle.std.specs.Option.{is_some};
-ghost use Rattle.std.specs.Prelude.{◌≡◌, ◌≢◌, ◌⊎◌, ℕ, List, Option, ◌<◌, ◌||◌, ◌&&◌, IfSome, IsSome, IsNone, None, true, false, [], length, not, slice_get};
+ghost use Rattle.std.specs.Prelude.{◌≡◌, ◌≢◌, ◌⊎◌, ℕ, List, Option, ◌<◌, ◌||◌, ◌&&◌, IfSome, None, true, false, [], length, not, slice_get};
 ghost use Rattle.std.specs.declared.time.Duration.{Duration};
 ghost use Rattle.daide_io.specs.Ports.{TurnBegins};
 ghost use Rattle.daide_io.specs.ReadyQueue.{is_among, woken_all};
 ghost use Rattle.daide_io.specs.System.{Polls, Shows, Accepts, Connects, BeginsTurn, Rests, Retires, Notifies};
 ghost use Rattle.daide_status.specs.declared.snapshot.SessionRow.{SessionRow};
-ghost use Rattle.daide_buffered_io.specs.Streams.{Transfers};
 ghost use Rattle.daide_settings.specs.BotsInAll.{bots_in_all};
 ghost use Rattle.daide_settings.specs.Ranges.{host_of, may_come};
 ghost use Rattle.daide_sockets.specs.Accepting.{is_bot_due, BringsNoBot, IsUnreached};
@@ -17,18 +16,17 @@ ghost use Rattle.daide_sockets.specs.Capacity.{capacity_after};
 ghost use Rattle.daide_sockets.specs.ControlSlots.{Each, PlaceShows, places, arming_control};
 ghost use Rattle.daide_sockets.specs.Finishing.{FinishesAll};
 ghost use Rattle.daide_sockets.specs.InTime.{arming_all};
-ghost use Rattle.daide_sockets.specs.Lines.{milliseconds_between};
 ghost use Rattle.daide_sockets.specs.Lingering.{LooksAround, in_pass, GoOnFor, no_closing};
 ghost use Rattle.daide_sockets.specs.Pairing.{Arriving, ClosesBothAt, TakesOut, is_vacant, pending_connects};
-ghost use Rattle.daide_sockets.specs.Present.{AdmitsBot, HasRoomForOne, address_in, bot_with, hosts_of, since_in, without_bot};
+ghost use Rattle.daide_sockets.specs.Present.{AdmitsBot, HasRoomForOne, hosts_of, without_bot};
 ghost use Rattle.daide_sockets.specs.Rows.{AreRowsOf, KeepsClosingRows, closing_keys};
-ghost use Rattle.daide_sockets.specs.Scheduling.{RunEvolves, run_state};
+ghost use Rattle.daide_sockets.specs.Scheduling.{RunEvolves, pair_of, run_state};
 ghost use Rattle.daide_sockets.specs.Snapshot.{IsSessionRow};
 ghost use Rattle.daide_sockets.specs.Sockets.{due_after};
 ghost use Rattle.daide_sockets.specs.Table.{Table, IsPollTime, disarmed};
-ghost use Rattle.daide_sockets.specs.Timers.{SetsTimers, timers_of};
+ghost use Rattle.daide_sockets.specs.Timers.{PortsEvolve};
 ghost use Rattle.daide_sockets.specs.Times.{IsSeconds, IsIdleTime, is_past};
-ghost use Rattle.daide_sockets.specs.Wakeups.{PollsPlaces, Settles};
+ghost use Rattle.daide_sockets.specs.Wakeups.{PollsPlaces};
 ghost use Rattle.daide_sockets.specs.declared.ports.SocketPorts.{SocketPorts as PortsOf};
 
 mod arrivals;
@@ -44,7 +42,7 @@ use crate::ports::SocketPorts;
 use crate::present::Present;
 use crate::session_notice::{Lasted, SessionNotice};
 use crate::system::beginning::{Listening, RunLists};
-use crate::table::SocketTable;
+use crate::table::{SocketTable, server_key};
 use daide_buffered_io::pool::Pool;
 use daide_io::network::Network;
 use daide_io::ready_queue::ReadyQueue;
@@ -85,8 +83,8 @@ fn idle_time_of(seconds: u32) -> Option<Duration>
 /// or the system refused to follow its connection (`kept`). From then on the next poll is for bots too (`awaited`), so it does
 /// not block while an accept is due. A bot is accepted only if it may come by the settings, beside the hosts of those that are
 /// there. What is judged is the address that the network returned with its connection (`accept`: `admitted`). A bot that comes
-/// is added to those, with this address. The end of its session removes it (`retire`: `present`), or that of its connect
-/// (`connected`: `leaves`), and no other call changes them. So `address_of` returns this address for the records and the status.
+/// is added to those, with this address, which the ports of its session have for the records and the status (`IsJoined`). The end
+/// of its session removes it (`retire`: `present`), or that of its connect (`connected`: `leaves`), and no other call changes them.
 ///
 /// The rows of a place are fixed by its number, and those of the listeners and of control connections by theirs. Only a closing
 /// socket takes a row, and the taken rows are always exactly those of the closing sockets (`HoldsRows`). A run begins with none
@@ -98,7 +96,7 @@ fn idle_time_of(seconds: u32) -> Option<Duration>
 ///
 /// At the end of `poll` the control socket advances, and the next poll watches it (`take_orders`: `control`, `armed`). Once a
 /// stop is requested, or all bots of the run came, the listener for bots is closed (`closes`, `all_came`). Once it is requested
-/// that sessions end now, each place is woken (`wake_stopped`), and a pending connect is given up (`look_at`). The next turn of a
+/// that sessions end now, each place is woken (`wake_stopped`), and a pending connect is given up (`connected`). The next turn of a
 /// session stops it, and no later one (`begin_turn`: `stops`, `once`).
 ///
 /// In each poll a run notes whether it is full and whether accepts pause, and logs what changed (`poll`: `capacity`).
@@ -215,13 +213,6 @@ impl<'w, N: Network, E: Write + Drop> Sockets<'w, N, E> {
         })
     }
 
-    /// Returns the address of the bot with this number, if it is there.
-    pub fn address_of(&self, number: u32) -> Option<SocketAddr>
-        ensures { result ≡ address_in (bot_with number self.now.present.bots.items) }
-    {
-        self.present.address_of(number)
-    }
-
     /// Sets whether the beginning and the end of each session are logged, and the capacity of the run.
     pub fn set_verbose(&mut self, is_verbose: bool)
         ensures { self.new ≡ record self.old { is_verbose = is_verbose } }
@@ -242,12 +233,12 @@ impl<'w, N: Network, E: Write + Drop> Sockets<'w, N, E> {
     /// Looks whether a further bot can be accepted. Logs what changed in that, if sessions are logged.
     fn note_capacity(&mut self)
         ensures capacity { self.new.capacity ≡ capacity_after self.old.capacity
-            (length self.old.present.bots.items) self.old.max_sessions (is_some self.old.acceptor.resumes_at)
+            (length self.old.present.bots.items) self.old.max_sessions (is_some self.old.acceptor.listener.resumes_at)
             self.old.acceptor.came }
         ensures same { self.new ≡ record self.old { errors = self.new.errors; capacity = self.new.capacity } }
     {
         let (present, most) = (self.present.len(), self.max_sessions);
-        let is_paused = self.acceptor.is_paused();
+        let is_paused = self.acceptor.listener.is_paused();
         let after = self
             .capacity
             .after(present, most, is_paused, self.acceptor.came());
@@ -255,15 +246,6 @@ impl<'w, N: Network, E: Write + Drop> Sockets<'w, N, E> {
             self.capacity.log_change(after, most, &mut self.errors);
         }
         self.capacity = after;
-    }
-
-    /// Returns how long the session with this number has lasted.
-    fn lasted(&self, number: u32) -> Lasted
-        ensures { result.milliseconds ≡ milliseconds_between
-            (since_in (bot_with number self.now.present.bots.items))
-            self.now.poller.table.reading }
-    {
-        Lasted::between(self.present.came_at(number), self.poller.table.now())
     }
 
     /// Begins a round of the acceptor, and advances the closing sockets.
@@ -290,45 +272,36 @@ impl<'w, N: Network, E: Write + Drop> Sockets<'w, N, E> {
 
     /// Returns the gateway's own port of a session's connection to the server, if the system says it.
     fn port_to_server(&self, ports: &SocketPorts<'w, N::Connection>) -> Option<u16> {
-        let (_bot, server) = ports.connections();
-        let own = self.poller.network.local_address(server)?;
+        let (_bot, server) = ports.sockets();
+        let own = self.poller.network.local_address(server.connection())?;
         Some(own.port())
     }
 
-    /// Returns the row of a session with this status; `None` if its bot is not among those that are there.
-    fn row_of(
-        &self,
-        ports: &SocketPorts<'w, N::Connection>,
-        status: SessionStatus,
-    ) -> Option<SessionRow>
-        ensures row { IfSome result (λ row. IsSessionRow self.now.poller.table.reading ports.now.number
-            (address_in (bot_with ports.now.number self.now.present.bots.items))
-            (ports.now.bot, ports.now.server) status row) }
-        ensures absent { IsNone result →
-            address_in (bot_with ports.now.number self.now.present.bots.items) ≡ None }
+    /// Returns the row of a session with this status.
+    fn row_of(&self, ports: &SocketPorts<'w, N::Connection>, status: SessionStatus) -> SessionRow
+        ensures { IsSessionRow self.now.poller.table.reading ports.now.identity (ports.now.bot, ports.now.server) status result }
     {
-        let bot = self.present.address_of(ports.number())?;
-        let (buffered_to_bot, buffered_to_server) = ports.queued();
-        let (bot_heard_at, server_heard_at) = ports.heard_at();
+        let identity = ports.identity();
+        let (bot, server) = ports.sockets();
         let now = self.poller.table.now();
-        Some(SessionRow {
-            number: ports.number(),
-            bot,
+        SessionRow {
+            number: identity.number,
+            bot: identity.address,
             port_to_server: self.port_to_server(ports),
             phase: status.phase,
             level: status.level,
             account: status.account,
             queued_to_bot: status.queued_to_bot,
             queued_to_server: status.queued_to_server,
-            buffered_to_bot,
-            buffered_to_server,
+            buffered_to_bot: bot.stream.queued_len(),
+            buffered_to_server: server.stream.queued_len(),
             received_from_bot: status.bytes.from_bot,
             received_from_server: status.bytes.from_server,
             sent_to_bot: status.bytes.to_bot,
             sent_to_server: status.bytes.to_server,
-            bot_idle: seconds_between(bot_heard_at, now),
-            server_idle: seconds_between(server_heard_at, now),
-        })
+            bot_idle: seconds_between(bot.heard_at, now),
+            server_idle: seconds_between(server.heard_at, now),
+        }
     }
 
     /// Waits until the last sockets are closed. That takes at most a second after their peers accepted the buffered
@@ -419,7 +392,7 @@ impl<'w, N: Network, E: Write + Drop> System<SocketPorts<'w, N::Connection>> for
         ensures now_kept { self.old.control.stops_now ≡ true → self.new.control.stops_now ≡ true }
         ensures armed { (before : Table) × (self.new.poller.table ≡ arming_control before self.new.control) }
         ensures capacity { self.new.capacity ≡ capacity_after self.old.capacity
-            (length self.old.present.bots.items) self.old.max_sessions (is_some self.old.acceptor.resumes_at)
+            (length self.old.present.bots.items) self.old.max_sessions (is_some self.old.acceptor.listener.resumes_at)
             self.old.acceptor.came }
         ensures same { self.new ≡ record self.old {
           poller = self.new.poller;
@@ -447,24 +420,18 @@ impl<'w, N: Network, E: Write + Drop> System<SocketPorts<'w, N::Connection>> for
             self.old.arrivals.items self.old.closings) (Shows ports.now status)
             (run_state (self.new.poller.network, self.new.poller.table) (self.new.idle_time, self.new.stall_time) self.new.acceptor
             self.new.arrivals.items self.new.closings) }
-        ensures shows { IsSome (address_in (bot_with ports.now.number self.old.present.bots.items)) → (row : SessionRow)
-            × IsSessionRow self.old.poller.table.reading ports.now.number
-            (address_in (bot_with ports.now.number self.old.present.bots.items))
+        ensures shows { (row : SessionRow) × IsSessionRow self.old.poller.table.reading ports.now.identity
             (ports.now.bot, ports.now.server) status row
             × Each (PlaceShows row) (places self.old.control.slots) (places self.new.control.slots) }
         ensures same { self.new ≡ record self.old { control = self.new.control } }
     {
-        if let Some(row) = self.row_of(ports, status) {
-            self.control.show(&row);
-        }
+        let row = self.row_of(ports, status);
+        self.control.show(&row);
         self.poller.table.is_bounded();
     }
 
     fn begin_turn(&mut self, place: usize, ports: &mut SocketPorts<'w, N::Connection>)
-        ensures ports { Transfers N.Connection.to_give N.Connection.taken
-            (ports.old.bot.stream, ports.old.server.stream) TurnBegins (ports.new.bot.stream, ports.new.server.stream)
-            × Settles N.Connection.calls TurnBegins (ports.old.bot, ports.old.server) (ports.new.bot, ports.new.server)
-            × SetsTimers TurnBegins (timers_of ports.old) (timers_of ports.new) }
+        ensures ports { PortsEvolve N.Connection.to_give N.Connection.taken N.Connection.calls ports.old TurnBegins ports.new }
         ensures system { RunEvolves N.transition N.Connection.to_give N.Connection.taken N.Connection.calls
             (λ (ports : PortsOf N.Connection). ports)
             (run_state (self.old.poller.network, self.old.poller.table) (self.old.idle_time, self.old.stall_time) self.old.acceptor
@@ -474,7 +441,7 @@ impl<'w, N: Network, E: Write + Drop> System<SocketPorts<'w, N::Connection>> for
         ensures silent { (ports.new.bot.timed.is_silent ≡ ports.old.bot.timed.is_silent)
             × (ports.new.server.timed.is_silent ≡ ports.old.server.timed.is_silent) }
         ensures gathering { (ports.new.bot.is_gathering ≡ false) × (ports.new.server.is_gathering ≡ false) }
-        ensures number { ports.new.number ≡ ports.old.number }
+        ensures identity { ports.new.identity ≡ ports.old.identity }
         ensures same { self.new ≡ record self.old { poller = self.new.poller } }
         ensures clock { self.new.poller.table.reading ≡ self.old.poller.table.reading }
         ensures expires { ports.new.im_timer_expired ≡ is_past self.old.poller.table.reading ports.old.im_due }
@@ -554,6 +521,11 @@ impl<'w, N: Network, E: Write + Drop> System<SocketPorts<'w, N::Connection>> for
         self.accept_due(place)
     }
 
+    /// Returns the result of the connect for the bot at a place, if it has one. Otherwise the place rests, until something is
+    /// reported of the connect, or until its deadline. After a request that sessions end now, the connect is given up.
+    ///
+    /// `present`, `leaves`: those present are the same, except for a bot whose connect is given up.
+    #[inline(never)]
     fn connected(&mut self, place: usize) -> Connect<SocketPorts<'w, N::Connection>>
         ensures transition { RunEvolves N.transition N.Connection.to_give N.Connection.taken N.Connection.calls
             (λ (ports : PortsOf N.Connection). ports)
@@ -568,7 +540,7 @@ impl<'w, N: Network, E: Write + Drop> System<SocketPorts<'w, N::Connection>> for
         ensures present { result ≢ Connect.Failed → self.new.present ≡ self.old.present }
         ensures leaves { result ≡ Connect.Failed → (arrival : Arriving N.Connection)
             × TakesOut self.old.arrivals.items place arrival self.new.arrivals.items
-            × (self.new.present.bots.items ≡ without_bot arrival.number self.old.present.bots.items) }
+            × (self.new.present.bots.items ≡ without_bot arrival.identity.number self.old.present.bots.items) }
         ensures same { self.new ≡ record self.old {
           poller = self.new.poller;
           arrivals = self.new.arrivals;
@@ -578,7 +550,35 @@ impl<'w, N: Network, E: Write + Drop> System<SocketPorts<'w, N::Connection>> for
           errors = self.new.errors;
         } }
     {
-        self.look_at(place)
+        let Some(arrival) = self.take_arrival(place) else {
+            self.poller.table.is_bounded();
+            return Connect::Pending;
+        };
+        let mut arrival = arrival;
+        if self.control.stops_now() {
+            self.let_go(place, arrival.give_up());
+            self.poller.table.is_bounded();
+            return Connect::Failed;
+        }
+        if arrival.advances(&mut self.poller, self.servers, server_key(place)) {
+            self.poller.table.rest(place, arrival.due());
+            self.put_arrival(place, arrival);
+            self.poller.table.is_bounded();
+            return Connect::Pending;
+        }
+        let now = self.poller.table.now();
+        match arrival.join(now, (self.idle_time, self.stall_time)) {
+            Ok(ports) => {
+                self.log_server(&ports);
+                self.poller.table.is_bounded();
+                Connect::Ready(ports)
+            }
+            Err(left) => {
+                self.let_go(place, left);
+                self.poller.table.is_bounded();
+                Connect::Failed
+            }
+        }
     }
 
     fn retire(&mut self, place: usize, ports: SocketPorts<'w, N::Connection>, end: SessionEnd)
@@ -589,12 +589,8 @@ impl<'w, N: Network, E: Write + Drop> System<SocketPorts<'w, N::Connection>> for
             (run_state (self.new.poller.network, self.new.poller.table) (self.new.idle_time, self.new.stall_time) self.new.acceptor
             self.new.arrivals.items self.new.closings) }
         ensures closes { ClosesBothAt N.Connection.to_give N.Connection.taken N.Connection.calls
-            self.old.poller.table.reading self.old.closings (record {
-              number = ports.entry.number;
-              bot = ports.entry.bot.stream;
-              server = ports.entry.server.stream;
-            }) self.new.closings }
-        ensures present { self.new.present.bots.items ≡ without_bot ports.entry.number self.old.present.bots.items }
+            self.old.poller.table.reading self.old.closings (pair_of ports.entry) self.new.closings }
+        ensures present { self.new.present.bots.items ≡ without_bot ports.entry.identity.number self.old.present.bots.items }
         ensures same { self.new ≡ record self.old {
           poller = self.new.poller;
           closings = self.new.closings;
@@ -602,9 +598,13 @@ impl<'w, N: Network, E: Write + Drop> System<SocketPorts<'w, N::Connection>> for
           errors = self.new.errors;
         } }
     {
-        let session = (ports.number(), self.lasted(ports.number()));
-        self.present.remove(ports.number());
-        let notice = SessionNotice::of_end(session, end, ports.timed(), self.stall_seconds);
+        let identity = ports.identity();
+        self.present.remove(identity.number);
+        let lasted = Lasted::between(identity.since, self.poller.table.now());
+        let session = (identity.number, lasted);
+        let (bot, server) = ports.sockets();
+        let timed = (bot.timed, server.timed);
+        let notice = SessionNotice::of_end(session, end, timed, self.stall_seconds);
         self.log_session(notice);
         self.poller.table.forget(place);
         self.closings.begin_both(&mut self.poller, place, ports);

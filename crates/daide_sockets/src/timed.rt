@@ -1,7 +1,7 @@
 //! The timeouts of a socket that expired, which `--verbose` reports.
 
 ghost use Rattle.std.specs.Prelude.{◌≡◌};
-ghost use Rattle.daide_sockets.specs.Lines.{timed_at};
+ghost use Rattle.daide_buffered_io.specs.Streams.{stream_of};
 
 use daide_frame::side::Side;
 
@@ -28,7 +28,7 @@ impl Timed {
 
 /// Returns a side's expired timeouts, out of those of the bot and the server.
 pub(crate) fn timed_at(timed: (Timed, Timed), side: Side) -> Timed
-    ensures { result ≡ timed_at timed side }
+    ensures { result ≡ stream_of timed side }
 {
     match side {
         Side::Bot => timed.0,

@@ -39,7 +39,9 @@ fn check_acceptor<'w>(
     acceptor: &mut Acceptor,
 ) -> Result<(), Fail> {
     poller.poll(true);
-    acceptor.pause(poller.table.after(Duration::ZERO), ErrorKind::Other);
+    acceptor
+        .listener
+        .pause(poller.table.after(Duration::ZERO), ErrorKind::Other);
     holds(acceptor.accept(poller).is_none(), "none is made")?;
     acceptor.arm(&mut poller.table);
     let end = poller.table.after(Duration::from_millis(100));

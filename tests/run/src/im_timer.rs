@@ -1,6 +1,6 @@
 //! When the IM timer of a session is reported, for sockets over streams in memory.
 
-use crate::wires::{Wire, WirePorts, still_poller};
+use crate::wires::{Wire, WirePorts, first_bot, still_poller};
 use daide_buffered_io::pool::Pool;
 use daide_io::ports::{ClockEvent, Ports};
 use daide_sockets::ports::SocketPorts;
@@ -12,14 +12,6 @@ use std::test::Fail;
 /// The results of two queries of the clock.
 type Events = (ClockEvent, ClockEvent);
 
-/// Returns the ports of a session that has nothing to do.
-fn idle_ports(pool: &Pool) -> WirePorts<'_> {
-    SocketPorts::new(
-        Socket::over(pool, Wire::new(&[], 0), 0),
-        Socket::over(pool, Wire::new(&[], 0), 1),
-    )
-}
-
 /// Begins a turn, and returns the results of two queries of the clock in it.
 fn events_in_turn(ports: &mut WirePorts<'_>, table: &mut SocketTable) -> Events {
     ports.begin_turn(0, table);
@@ -29,7 +21,11 @@ fn events_in_turn(ports: &mut WirePorts<'_>, table: &mut SocketTable) -> Events 
 /// Returns the results of queries of the clock before and in two turns, where the deadline is past.
 fn told_of(pool: &Pool, table: &mut SocketTable) -> (ClockEvent, Events, Events) {
     let now = table.now();
-    let mut ports = idle_ports(pool).of_session(1, now, now, (None, None));
+    let sockets = (
+        Socket::over(pool, Wire::new(&[], 0), 0),
+        Socket::over(pool, Wire::new(&[], 0), 1),
+    );
+    let mut ports = SocketPorts::new(first_bot(), sockets, now, now, (None, None));
     let before = ports.clock(false);
     let first = events_in_turn(&mut ports, table);
     (before, first, events_in_turn(&mut ports, table))

@@ -5,7 +5,7 @@
 //! and sent in pieces. The other streams accept each write whole, and their writes are counted.
 
 use crate::frames::{FM, IM, ITS_PRN, OBS, RM, UNCLOSED};
-use crate::wires::{READY, StillPoller, report_all, still_poller};
+use crate::wires::{READY, StillPoller, first_bot, report_all, still_poller};
 use daide_buffered_io::pool::Pool;
 use daide_driver::relaying::{RelayEnd, relay};
 use daide_io::duplex::Duplex;
@@ -190,7 +190,8 @@ fn has_taken(line: &Line, wanted: &[&[u8]]) -> bool {
 fn ports_of<'w>(alloc: Global, pool: &'w Pool, talk: &Talk) -> SocketPorts<'w, Line> {
     let bot = Line::new(alloc, talk.bot, talk.is_slow);
     let server = Line::new(alloc, talk.server, talk.is_slow);
-    SocketPorts::new(Socket::over(pool, bot, 0), Socket::over(pool, server, 1))
+    let sockets = (Socket::over(pool, bot, 0), Socket::over(pool, server, 1));
+    SocketPorts::new(first_bot(), sockets, None, None, (None, None))
 }
 
 /// Returns whether the bot's end and the server's accepted exactly these frames, after the write buffers are written.

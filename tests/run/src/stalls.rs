@@ -1,6 +1,6 @@
 //! When a peer that accepts nothing is given up, for sockets over streams in memory.
 
-use crate::wires::{StillPoller, Wire, still_poller};
+use crate::wires::{StillPoller, Wire, first_bot, still_poller};
 use daide_buffered_io::pool::Pool;
 use daide_frame::side::Side;
 use daide_io::ports::Ports;
@@ -22,12 +22,8 @@ fn deadlines_of(poller: &mut StillPoller, pool: &Pool) -> (Option<Instant>, [Opt
         Socket::over(pool, Wire::new(&[], 0), 0),
         Socket::over(pool, Wire::new(&[], 0), 1),
     );
-    let mut ports = SocketPorts::new(sockets.0, sockets.1).of_session(
-        1,
-        poller.table.now(),
-        None,
-        (None, Some(stall)),
-    );
+    let now = poller.table.now();
+    let mut ports = SocketPorts::new(first_bot(), sockets, now, None, (None, Some(stall)));
     let mut first = None;
     let mut deadlines = [None; 3];
     for (turn, deadline) in deadlines.iter_mut().enumerate() {

@@ -1,6 +1,7 @@
 //! Sockets over streams in memory that accept what a row allows: the time of each write, and the readiness after each
 //! call. A network in which nothing moves polls them.
 
+use crate::doors::any_port;
 use crate::wires::Step::{Idles, Puts, Turns};
 use daide_buffered_io::pool::Pool;
 use daide_buffered_io::readiness::Readiness;
@@ -8,8 +9,10 @@ use daide_frame::side::Side;
 use daide_io::duplex::Duplex;
 use daide_io::network::{ConnectStatus, Network, SocketEvent};
 use daide_io::ports::{Ports, Pull, Put};
+use daide_settings::Host;
 use daide_sockets::poller::Poller;
 use daide_sockets::ports::SocketPorts;
+use daide_sockets::present::Bot;
 use daide_sockets::socket::Socket;
 use daide_sockets::table::SocketTable;
 use daide_test_support::rows::{holds, same};
@@ -82,6 +85,17 @@ impl Duplex for Wire {
     }
 
     fn end_writing(&mut self) {}
+}
+
+/// Returns the first bot of a run.
+pub fn first_bot() -> Bot {
+    let address = any_port();
+    Bot {
+        number: 1,
+        host: Host::of(address.ip()),
+        address,
+        since: None,
+    }
 }
 
 /// The ports of a session over two such streams.
@@ -308,7 +322,7 @@ fn took_of(pool: &Pool, poller: &mut StillPoller, written: &Written) -> Option<(
     let (bot_takes, server_takes, steps, _) = *written;
     let bot = ready_socket(pool, bot_takes, 0);
     let server = ready_socket(pool, server_takes, 1);
-    let mut ports = SocketPorts::new(bot, server);
+    let mut ports = SocketPorts::new(first_bot(), (bot, server), None, None, (None, None));
     let are_right = does_all(&mut ports, poller, steps);
     let (bot, server) = ports.into_sockets();
     let took = (bot.connection().took, server.connection().took);

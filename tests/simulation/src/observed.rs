@@ -567,11 +567,11 @@ impl<'w, 'n> ObservedSockets<'w, 'n> {
         &mut self,
         ports: SocketPorts<'w, MemoryConnection<'n>>,
     ) -> Option<ObservedPorts<'w, 'n>> {
-        let (bot, server) = ports.connections();
-        let (bot, server) = (bot.wire, server.wire);
+        let (bot, server) = ports.sockets();
+        let (bot, server) = (bot.connection().wire, server.connection().wire);
         let machine = Session::new(self.alloc, self.config).ok()?;
         let mut state = self.world.state.try_borrow_mut().ok()?;
-        let began_at = join(&mut state, ports.number(), bot, server);
+        let began_at = join(&mut state, ports.identity().number, bot, server);
         let rules = state.rules;
         let silent_at = if rules.idle == 0 {
             u64::MAX
@@ -709,7 +709,7 @@ impl<'w, 'n> System<ObservedPorts<'w, 'n>> for ObservedSockets<'w, 'n> {
         self.check_end(&ports, end);
         self.is_spent = false;
         self.held = self.held.saturating_sub(1);
-        let (number, bot) = (ports.ports.number(), ports.bot);
+        let (number, bot) = (ports.ports.identity().number, ports.bot);
         let ObservedPorts {
             ports,
             world: _,

@@ -2,13 +2,13 @@
 
 ghost use Rattle.std.specs.Duration.{as_nanos};
 ghost use Rattle.std.specs.Net.Socket.{socket_ip};
-ghost use Rattle.std.specs.Prelude.{◌≡◌, ◌≢◌, ℕ, ◌<◌, ◌≤◌, ◌&&◌, nat_lt, IfSome, IfNone, None, Some, true, false, length, slice_set};
-ghost use Rattle.daide_io.specs.System.{Accepts, Connects};
+ghost use Rattle.std.specs.Prelude.{◌≡◌, ◌<◌, ◌≤◌, ◌&&◌, nat_lt, IfSome, IfNone, None, Some, true, false, length, slice_set};
+ghost use Rattle.daide_io.specs.System.{Accepts};
 ghost use Rattle.daide_frame.specs.declared.side.Side.TheVariants.{Server};
 ghost use Rattle.daide_settings.specs.Ranges.{host_of, may_come};
-ghost use Rattle.daide_sockets.specs.Accepting.{is_bot_due, AcceptsThenConnects, BringsNoBot, IsUnreached, GivesConnection};
+ghost use Rattle.daide_sockets.specs.Accepting.{is_bot_due, AcceptsThenConnects, BringsNoBot, GivesConnection};
 ghost use Rattle.daide_sockets.specs.KeptRows.{ChangesRows, IsAcceptRow};
-ghost use Rattle.daide_sockets.specs.Pairing.{Arriving, ClosesAt, Comes, ComesWith, TakesOut, arrival_at, is_vacant};
+ghost use Rattle.daide_sockets.specs.Pairing.{ClosesAt, Comes, ComesWith, TakesOut, arrival_at, is_vacant};
 ghost use Rattle.daide_sockets.specs.Present.{AdmitsBot, HasRoomForOne, hosts_of, without_bot};
 ghost use Rattle.daide_sockets.specs.Rows.{KeepsClosingRows, closing_keys};
 ghost use Rattle.daide_sockets.specs.Scheduling.{RunEvolves, run_state};
@@ -19,21 +19,20 @@ ghost use Rattle.daide_sockets.specs.declared.ports.SocketPorts.{SocketPorts as 
 use super::Sockets;
 use crate::admission::{PendingConnection, Unreached};
 use crate::ports::SocketPorts;
-use crate::session_notice::SessionNotice;
+use crate::session_notice::{Lasted, SessionNotice};
 use crate::table::{bot_key, server_key};
 use daide_io::network::Network;
-use daide_io::system::Connect;
 use std::io::Write;
 use std::net::SocketAddr;
 
 impl<'w, N: Network, E: Write + Drop> Sockets<'w, N, E> {
     /// Logs the address from which the server of a session was reached, if the system says it and sessions are logged.
-    fn log_server(&mut self, ports: &SocketPorts<'w, N::Connection>)
+    pub(super) fn log_server(&mut self, ports: &SocketPorts<'w, N::Connection>)
         ensures { self.new ≡ record self.old { errors = self.new.errors } }
     {
-        let (_bot, server) = ports.connections();
-        if let Some(own) = self.poller.network.local_address(server) {
-            let number = ports.number();
+        let (_bot, server) = ports.sockets();
+        if let Some(own) = self.poller.network.local_address(server.connection()) {
+            let number = ports.identity().number;
             self.log_session(SessionNotice::Reached { number, own });
         }
     }
@@ -48,10 +47,10 @@ impl<'w, N: Network, E: Write + Drop> Sockets<'w, N, E> {
     }
 
     /// Ends the session of a bot whose server was unreachable, and starts the close of its socket.
-    fn let_go(&mut self, place: usize, left: Unreached<'w, N::Connection>)
+    pub(super) fn let_go(&mut self, place: usize, left: Unreached<'w, N::Connection>)
         ensures closes { ClosesAt N.Connection.to_give N.Connection.taken N.Connection.calls
             self.old.poller.table.reading self.old.closings left.entry.bot.stream self.new.closings }
-        ensures present { self.new.present.bots.items ≡ without_bot left.entry.number self.old.present.bots.items }
+        ensures present { self.new.present.bots.items ≡ without_bot left.entry.identity.number self.old.present.bots.items }
         ensures clock { self.new.poller.table.reading ≡ self.old.poller.table.reading }
         ensures calls { GoesUnpolled N.transition self.old.poller.network self.new.poller.network }
         ensures rows { KeepsClosingRows (forgotten self.old.poller.table place) (closing_keys self.old.closings.streams)
@@ -65,15 +64,19 @@ impl<'w, N: Network, E: Write + Drop> Sockets<'w, N, E> {
         } }
     {
         self.poller.table.forget(place);
-        let lasted = self.lasted(left.number);
-        self.present.remove(left.number);
+        let Unreached { identity, bot } = left;
+        let lasted = Lasted::between(identity.since, self.poller.table.now());
+        self.present.remove(identity.number);
         self.unreached = self.unreached.saturating_add(1);
-        self.log_session(SessionNotice::of_no_server(left.number, lasted));
-        self.closings.begin(&mut self.poller, left.bot);
+        self.log_session(SessionNotice::of_no_server(identity.number, lasted));
+        self.closings.begin(&mut self.poller, bot);
     }
 
     /// Takes out the bot at a place whose connect is under way, if there is one.
-    fn take_arrival(&mut self, place: usize) -> Option<PendingConnection<'w, N::Connection>>
+    pub(super) fn take_arrival(
+        &mut self,
+        place: usize,
+    ) -> Option<PendingConnection<'w, N::Connection>>
         ensures some { IfSome result (λ arrival. TakesOut self.old.arrivals.items place arrival self.new.arrivals.items) }
         ensures rows { IfSome result (λ _. (place < length self.old.poller.table.deadlines)
             × (key_of place Server ≤ usize.MAX)) }
@@ -88,7 +91,11 @@ impl<'w, N: Network, E: Write + Drop> Sockets<'w, N, E> {
     }
 
     /// Puts a bot whose connect is under way to a place.
-    fn put_arrival(&mut self, place: usize, arrival: PendingConnection<'w, N::Connection>)
+    pub(super) fn put_arrival(
+        &mut self,
+        place: usize,
+        arrival: PendingConnection<'w, N::Connection>,
+    )
         ensures put { self.new.arrivals.items ≡ slice_set self.old.arrivals.items place (Some arrival.entry) }
         ensures same { self.new ≡ record self.old { arrivals = self.new.arrivals } }
     {
@@ -107,67 +114,6 @@ impl<'w, N: Network, E: Write + Drop> Sockets<'w, N, E> {
         place < self.poller.table.places()
             && place < self.arrivals.len()
             && self.arrivals[place].is_none()
-    }
-
-    /// Returns the result of the connect for the bot at a place, if it has one. Otherwise the place rests, until something is
-    /// reported of the connect, or until its deadline. After a request that sessions end now, the connect is given up.
-    ///
-    /// `present`, `leaves`: those present are the same, except for a bot whose connect is given up.
-    #[inline(never)]
-    pub(super) fn look_at(&mut self, place: usize) -> Connect<SocketPorts<'w, N::Connection>>
-        ensures transition { RunEvolves N.transition N.Connection.to_give N.Connection.taken N.Connection.calls
-            (λ (ports : PortsOf N.Connection). ports)
-            (run_state (self.old.poller.network, self.old.poller.table) (self.old.idle_time, self.old.stall_time) self.old.acceptor
-            self.old.arrivals.items self.old.closings)
-            (Connects place result)
-            (run_state (self.new.poller.network, self.new.poller.table) (self.new.idle_time, self.new.stall_time) self.new.acceptor
-            self.new.arrivals.items self.new.closings) }
-        ensures unreached { result ≡ Connect.Failed → self.old.control.stops_now ≡ false →
-            (arrival : Arriving N.Connection) × (tried : N) × TakesOut self.old.arrivals.items place arrival self.new.arrivals.items
-            × IsUnreached N.transition self.old.servers.now self.old.poller.table.reading arrival.gives_up arrival.tried
-            self.old.poller.network tried }
-        ensures present { result ≢ Connect.Failed → self.new.present ≡ self.old.present }
-        ensures leaves { result ≡ Connect.Failed → (arrival : Arriving N.Connection)
-            × TakesOut self.old.arrivals.items place arrival self.new.arrivals.items
-            × (self.new.present.bots.items ≡ without_bot arrival.number self.old.present.bots.items) }
-        ensures same { self.new ≡ record self.old {
-          poller = self.new.poller;
-          arrivals = self.new.arrivals;
-          closings = self.new.closings;
-          present = self.new.present;
-          unreached = self.new.unreached;
-          errors = self.new.errors;
-        } }
-    {
-        let Some(arrival) = self.take_arrival(place) else {
-            self.poller.table.is_bounded();
-            return Connect::Pending;
-        };
-        let mut arrival = arrival;
-        if self.control.stops_now() {
-            self.let_go(place, arrival.give_up());
-            self.poller.table.is_bounded();
-            return Connect::Failed;
-        }
-        if arrival.advances(&mut self.poller, self.servers, server_key(place)) {
-            self.poller.table.rest(place, arrival.due());
-            self.put_arrival(place, arrival);
-            self.poller.table.is_bounded();
-            return Connect::Pending;
-        }
-        let now = self.poller.table.now();
-        match arrival.join(now, (self.idle_time, self.stall_time)) {
-            Ok(ports) => {
-                self.log_server(&ports);
-                self.poller.table.is_bounded();
-                Connect::Ready(ports)
-            }
-            Err(left) => {
-                self.let_go(place, left);
-                self.poller.table.is_bounded();
-                Connect::Failed
-            }
-        }
     }
 
     /// Accepts the next bot, if there is one, and begins its connect. Returns the line of its session; `None` if no bot
@@ -244,7 +190,7 @@ impl<'w, N: Network, E: Write + Drop> Sockets<'w, N, E> {
             rules,
             &mut self.present,
         );
-        let (number, bot, address) = match next {
+        let (identity, bot) = match next {
             Ok(next) => next,
             Err(declined) => {
                 self.log_declined(declined);
@@ -257,13 +203,13 @@ impl<'w, N: Network, E: Write + Drop> Sockets<'w, N, E> {
             &mut self.poller,
             self.servers,
             key,
-            (number, bot),
+            (identity, bot),
             times,
         );
         self.put_arrival(place, arrival);
         Some(SessionNotice::Began {
-            number,
-            bot: address,
+            number: identity.number,
+            bot: identity.address,
         })
     }
 

@@ -78,25 +78,6 @@ impl<'w, N: Network, E: Write + Drop> Sockets<'w, N, E> {
             && self.control.is_at_rest(&self.poller.table)
     }
 
-    /// Advances the control socket, with the status of the run, and returns the operator's orders.
-    fn begin_control(&mut self) -> Orders
-        ensures control { (run : RunStatus) × IsRunStatus self.old.acceptor.came
-            (length self.old.present.bots.items) (pending_connects self.old.arrivals.items) self.old.unreached
-            (nat_le self.old.max_sessions (length self.old.present.bots.items)
-            && is_bot_due self.old.poller.table self.old.acceptor) self.old.control.stops_accepting
-            (or_zero (seconds_between self.old.control.started_at self.old.poller.table.reading)) run
-            × BeginsRound N.Connection.to_give N.Connection.taken
-            N.Connection.calls run self.old.poller.table self.old.control result self.new.control }
-        ensures calls { GoesUnpolled N.transition self.old.poller.network self.new.poller.network }
-        ensures table { ChangesRows (IsControlRow self.old.poller.table) self.old.poller.table self.new.poller.table }
-        ensures kept { self.old.control.stops_accepting ≡ true → self.new.control.stops_accepting ≡ true }
-        ensures now_kept { self.old.control.stops_now ≡ true → self.new.control.stops_now ≡ true }
-        ensures same { self.new ≡ record self.old { poller = self.new.poller; control = self.new.control } }
-    {
-        let run = self.run_status();
-        self.control.begin_round(&mut self.poller, &run)
-    }
-
     /// Advances the control socket, and returns the operator's orders. Once a stop is requested, or all bots of the run
     /// came, the listener for bots is closed. So a bot that comes too late is refused.
     ///
@@ -137,7 +118,8 @@ impl<'w, N: Network, E: Write + Drop> Sockets<'w, N, E> {
             return self.control.orders_at_rest();
         }
         let was_stopped = self.control.stops_accepting();
-        let orders = self.begin_control();
+        let run = self.run_status();
+        let orders = self.control.begin_round(&mut self.poller, &run);
         let is_stopped_now = orders.stops_accepting && !was_stopped;
         if is_stopped_now || self.has_all_bots() && !self.acceptor.is_closed() {
             self.acceptor.close(&mut self.poller);

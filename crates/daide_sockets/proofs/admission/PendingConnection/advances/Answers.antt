@@ -19,7 +19,7 @@ returns-clause-table g c =
 pub returns-clause-goes_on : goal.returns-clause-goes_on
 returns-clause-goes_on g c =
     let first : StaysPending c.args.self.now c.progress.new.self = rw c.progress.ensures.rest
-    (record { number = refl; bot = refl; server = inl refl; tried = omega arith; gives_up = refl; im_due = refl }) in
+    (record { identity = refl; bot = refl; server = inl refl; tried = omega arith; gives_up = refl; im_due = refl }) in
     let second : StaysPending c.progress.new.self c.match-progress.self = elim c.match-progress.branch [
       | in-Failed w ↦ rw w.self-is w.try_next.ensures.goes_on
       | in-Pending w ↦ rw w.self-is (same_pending _)

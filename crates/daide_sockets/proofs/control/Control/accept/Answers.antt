@@ -7,8 +7,8 @@ use Rattle.daide_sockets.proofs.KeptRowLemmas.{changes_none, same_reading}
 use Rattle.daide_sockets.proofs.UnpolledLemmas.{none}
 use Rattle.daide_sockets.proofs.control.Control.accept.Goals as goal
 
-pub accept-requires : goal.accept-requires
-accept-requires g c =
+pub accept_from-requires : goal.accept_from-requires
+accept_from-requires g c =
     connection_row c.args.poller.now.table c.control_connection_key-key.result c.first_free.result (c.first_free.ensures (search rules)) (c.control_connection_key-key.ensures (c.first_free.ensures (search rules)))
 
 pub returns-clause-accepts : goal.returns-clause-accepts
@@ -25,7 +25,7 @@ returns-clause-accepts g c =
         closes_at = subst (λ (m : Option Instant). IsAfter reading 2000000000 m) (sym c.new.ensures.closes_at)
             (subst (λ (n : ℕ). IsAfter reading n moment) nanos
             (subst (λ (r : Option Instant). IsAfter r (as_nanos c.from_secs.result) moment)
-            (same_reading _ _ _ c.accept.ensures.table) c.after-closes_at.ensures));
+            (same_reading _ _ _ c.accept_from.ensures.table) c.after-closes_at.ensures));
       },
       c.put.ensures,
     )
@@ -42,14 +42,14 @@ returns-then-not-has_room-clause-table g c = changes_none _ _ _ refl
 pub returns-then-not-has_room-clause-calls : goal.returns-then-not-has_room-clause-calls
 returns-then-not-has_room-clause-calls g c = none g.N.Network.transition _ _ refl
 
-pub returns-in_default-accept-clause-table : goal.returns-in_default-accept-clause-table
-returns-in_default-accept-clause-table g c = c.accept.ensures.table
+pub returns-in_default-accept_from-clause-table : goal.returns-in_default-accept_from-clause-table
+returns-in_default-accept_from-clause-table g c = c.accept_from.ensures.table
 
-pub returns-in_default-accept-clause-calls : goal.returns-in_default-accept-clause-calls
-returns-in_default-accept-clause-calls g c = c.accept.ensures.calls
+pub returns-in_default-accept_from-clause-calls : goal.returns-in_default-accept_from-clause-calls
+returns-in_default-accept_from-clause-calls g c = c.accept_from.ensures.calls
 
 pub returns-clause-table : goal.returns-clause-table
-returns-clause-table g c = c.accept.ensures.table
+returns-clause-table g c = c.accept_from.ensures.table
 
 pub returns-clause-calls : goal.returns-clause-calls
-returns-clause-calls g c = c.accept.ensures.calls
+returns-clause-calls g c = c.accept_from.ensures.calls

@@ -23,7 +23,7 @@ pub returns-clause-admitted : goal.returns-clause-admitted
 returns-clause-admitted g c =
     let has = c.has_place.ensures.rows c.if-not-has_place.false in
     let key = key_fits c.args.place _ c.bot_key.result Bot c.bot_key.ensures has.1 in (
-      c.in-Ok.next.2,
+      c.in-Ok.next.0.address,
       search rules,
       record {
         arrival = c.new-arrival.result;
@@ -31,7 +31,7 @@ returns-clause-admitted g c =
         brings = search rules;
         connects = search rules;
         arrivals = search rules;
-        number_is = search rules;
+        identity = search rules;
         may = search rules;
         present = search rules;
       },

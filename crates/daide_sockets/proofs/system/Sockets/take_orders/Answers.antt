@@ -24,47 +24,45 @@ returns-then-has_no_orders-clause-calls g c = none g.N.Network.transition _ _ re
 -- the next poll watches it as it is after the listener for bots was closed, or was not
 pub returns-clause-armed : goal.returns-clause-armed
 returns-clause-armed g c =
-    let control = c.begin_control-orders.new.self in
-    let same : c.if-is_stopped_now.self.poller.table ≡ control.poller.table =
+    let same : c.if-is_stopped_now.self.poller.table ≡ c.begin_round-orders.new.poller.table =
     elim c.if-is_stopped_now.branch [
       | then-is_stopped_now w ↦ rw w.self-is w.close.ensures.table
       | else-is_stopped_now+else-not-is_closed w ↦ rw w.self-is refl
     ] in
-    (c.if-is_stopped_now.self.poller.table, rw same c.begin_control-orders.ensures.table, c.arm.ensures)
+    (c.if-is_stopped_now.self.poller.table, rw same c.begin_round-orders.ensures.table, c.arm.ensures)
 
 pub returns-clause-calls : goal.returns-clause-calls
 returns-clause-calls g c =
-    let control = c.begin_control-orders.new.self in
-    let closes : GoesUnpolled g.N.Network.transition control.poller.network c.if-is_stopped_now.self.poller.network =
+    let closes : GoesUnpolled g.N.Network.transition c.begin_round-orders.new.poller.network c.if-is_stopped_now.self.poller.network =
     elim c.if-is_stopped_now.branch [
       | then-is_stopped_now w ↦ rw w.self-is (one g.N.Network.transition _ _ StopsListening refl w.close.ensures.closes)
       | else-is_stopped_now+else-not-is_closed w ↦ rw w.self-is (none g.N.Network.transition _ _ refl)
     ] in
-    both g.N.Network.transition _ _ _ c.begin_control-orders.ensures.calls closes
+    both g.N.Network.transition _ _ _ c.begin_round-orders.ensures.calls closes
 
 pub returns-clause-kept : goal.returns-clause-kept
 returns-clause-kept g c =
-    let same : c.if-is_stopped_now.self.control ≡ c.begin_control-orders.new.self.control =
+    let same : c.if-is_stopped_now.self.control ≡ c.begin_round-orders.new.self =
     elim c.if-is_stopped_now.branch [
       | then-is_stopped_now w ↦ rw w.self-is refl
       | else-is_stopped_now+else-not-is_closed w ↦ rw w.self-is refl
     ] in
-    rw same c.begin_control-orders.ensures.kept
+    rw same c.begin_round-orders.ensures.kept
 
 pub returns-clause-now_kept : goal.returns-clause-now_kept
 returns-clause-now_kept g c =
-    let same : c.if-is_stopped_now.self.control ≡ c.begin_control-orders.new.self.control =
+    let same : c.if-is_stopped_now.self.control ≡ c.begin_round-orders.new.self =
     elim c.if-is_stopped_now.branch [
       | then-is_stopped_now w ↦ rw w.self-is refl
       | else-is_stopped_now+else-not-is_closed w ↦ rw w.self-is refl
     ] in
-    rw same c.begin_control-orders.ensures.now_kept
+    rw same c.begin_round-orders.ensures.now_kept
 
 pub returns-clause-control : goal.returns-clause-control
 returns-clause-control g c =
-    let same : c.if-is_stopped_now.self.control ≡ c.begin_control-orders.new.self.control =
+    let same : c.if-is_stopped_now.self.control ≡ c.begin_round-orders.new.self =
     elim c.if-is_stopped_now.branch [
       | then-is_stopped_now w ↦ rw w.self-is refl
       | else-is_stopped_now+else-not-is_closed w ↦ rw w.self-is refl
     ] in
-    rw same c.begin_control-orders.ensures.control
+    (c.run_status-run.result, c.run_status-run.ensures, rw same c.begin_round-orders.ensures.control)

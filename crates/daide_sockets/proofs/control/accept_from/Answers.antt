@@ -3,7 +3,7 @@ use Rattle.daide_io.specs.Network.{AcceptsControl, Follows}
 use Rattle.daide_sockets.proofs.ControlLemmas.{listener_reported, listener_followed}
 use Rattle.daide_sockets.proofs.KeptRowLemmas.{changes_none}
 use Rattle.daide_sockets.proofs.UnpolledLemmas.{both, none, one}
-use Rattle.daide_sockets.proofs.control.ControlListener.accept.Goals as goal
+use Rattle.daide_sockets.proofs.control.accept_from.Goals as goal
 
 pub returns-then-not-is_due-clause-table : goal.returns-then-not-is_due-clause-table
 returns-then-not-is_due-clause-table g c = changes_none _ _ _ refl
@@ -13,14 +13,14 @@ returns-then-not-is_due-clause-calls g c = none g.N.Network.transition _ _ refl
 
 pub returns-in-Err-clause-table : goal.returns-in-Err-clause-table
 returns-in-Err-clause-table g c =
-    listener_reported _ _ _ c.control_key-own.ensures c.take_report-report.ensures.table
+    listener_reported _ _ _ c.control_key-own.ensures c.note_accept.ensures.table
 
 pub returns-in-Err-clause-calls : goal.returns-in-Err-clause-calls
 returns-in-Err-clause-calls g c = one g.N.Network.transition _ _ (AcceptsControl c.accept_control.result) refl c.accept_control.ensures
 
 pub returns-then-not-follow-clause-table : goal.returns-then-not-follow-clause-table
 returns-then-not-follow-clause-table g c =
-    listener_followed _ _ _ _ c.args.key c.control_key-own.ensures c.take_report-report.ensures.table c.follow.ensures.table c.requires
+    listener_followed _ _ _ _ c.args.key c.control_key-own.ensures c.note_accept-2.ensures.table c.follow.ensures.table c.requires
 
 pub returns-then-not-follow-clause-calls : goal.returns-then-not-follow-clause-calls
 returns-then-not-follow-clause-calls g c =
@@ -30,7 +30,7 @@ returns-then-not-follow-clause-calls g c =
 
 pub returns-clause-table : goal.returns-clause-table
 returns-clause-table g c =
-    listener_followed _ _ _ _ c.args.key c.control_key-own.ensures c.take_report-report.ensures.table c.follow.ensures.table c.requires
+    listener_followed _ _ _ _ c.args.key c.control_key-own.ensures c.note_accept-2.ensures.table c.follow.ensures.table c.requires
 
 pub returns-clause-calls : goal.returns-clause-calls
 returns-clause-calls g c =

@@ -1,6 +1,7 @@
 use Rattle.std.proofs.Common.{length, refl, ap, ◌∙◌}
 use Rattle.daide_frame.specs.declared.side.Side.TheVariants.{Bot, Server}
 use Rattle.daide_sockets.specs.Pairing.{arrival_at}
+use Rattle.daide_sockets.specs.declared.present.Bot.{Bot as Accepted}
 use Rattle.daide_sockets.specs.Table.{Table, key_of, report_at}
 use Rattle.daide_sockets.proofs.AcceptLemmas.{unreached}
 use Rattle.daide_sockets.proofs.ConnectLemmas.{connected_joins, connected_reports, key_fits, rests_for, rests_unchanged}
@@ -8,7 +9,7 @@ use Rattle.daide_sockets.proofs.KeptRowLemmas.{changes_none, connect_beside, con
 use Rattle.daide_sockets.proofs.KeptRowLemmas.{failed_beside, failed_holds, failed_others, failed_places, rested_holds, rested_places, same_deadlines}
 use Rattle.daide_sockets.proofs.PairingLemmas.{put_back, there_again, unchanged_pending}
 use Rattle.daide_sockets.proofs.UnpolledLemmas.{both, none, tries_unpolled}
-use Rattle.daide_sockets.proofs.system.Sockets.look_at.Goals as goal
+use Rattle.daide_sockets.proofs.system.SocketsSystemSocketPortsConnection.connected.Goals as goal
 
 pub returns-in_default-clause-transition : goal.returns-in_default-clause-transition
 returns-in_default-clause-transition g c =
@@ -173,7 +174,7 @@ returns-in-Err-clause-transition g c =
 
 pub returns-in-Err-clause-leaves : goal.returns-in-Err-clause-leaves
 returns-in-Err-clause-leaves g c = λ failed.
-    let number = c.in-Err.ensures.unreached.0 ∙ c.advances.ensures.goes_on.number in
+    let number = ap (λ (b : Accepted). b.number) (c.in-Err.ensures.unreached.0 ∙ c.advances.ensures.goes_on.identity) in
     let present = rw (number, c.take_arrival.ensures.same) at c.let_go-in-Err.ensures.present in
     rw c.let_go-in-Err.ensures.same (c.in-Some.arrival, c.in-Some.ensures.some, present)
 
