@@ -4,5 +4,4 @@ pub mod FaultField
 pub mod System
 pub mod Streams
 pub mod Network
-pub mod Deadline
 pub mod ReadyQueue

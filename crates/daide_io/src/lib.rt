@@ -9,7 +9,6 @@
 #![tactic(auto)]
 
 pub mod byte_counts;
-pub mod deadline;
 pub mod duplex;
 pub mod fault_field;
 pub mod network;

@@ -18,7 +18,7 @@ use Rattle.daide_sockets.specs.Lingering.{ClosingList, no_closing}
 use Rattle.daide_sockets.specs.Pairing.{Arriving, Paired, RunSockets, Transits, pending_connects}
 use Rattle.daide_sockets.specs.Rows.{AreRowsOf}
 use Rattle.daide_sockets.specs.Table.{Table, free_row, new_table, row_at}
-use Rattle.daide_sockets.specs.Times.{IsIdleTime}
+use Rattle.daide_sockets.specs.Clock.{IsIdleTime}
 use Rattle.daide_run.specs.declared.gateway.GatewayFault.TheVariants as gateway_faults
 use Rattle.daide_run.specs.declared.running.RunFault.{RunFault}
 use Rattle.daide_run.specs.declared.running.RunFault.TheVariants.{Gateway}

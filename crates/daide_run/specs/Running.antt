@@ -17,7 +17,7 @@ use Rattle.daide_io.specs.Streams.{StreamCall}
 use Rattle.daide_sockets.specs.Addresses.{MayBeUnknown}
 use Rattle.daide_sockets.specs.Lingering.{no_closing}
 use Rattle.daide_sockets.specs.Pairing.{Paired, RunSockets, Transits, pending_connects}
-use Rattle.daide_sockets.specs.Times.{IsIdleTime}
+use Rattle.daide_sockets.specs.Clock.{IsIdleTime}
 use Rattle.daide_run.specs.Gateway.{Announces}
 use Rattle.daide_run.specs.declared.gateway.GatewayFault.TheVariants as gateway_faults
 use Rattle.daide_run.specs.declared.running.RunFault.{RunFault}

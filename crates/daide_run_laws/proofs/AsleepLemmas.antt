@@ -8,7 +8,7 @@ use Rattle.std.proofs.lemmas.Option.{slice_get_within}
 use Rattle.daide_frame.specs.declared.side.Side.{Side}
 use Rattle.daide_protocol.specs.Wires.{room_of, front_of, queued, no_frame}
 use Rattle.daide_settings.specs.declared.settings.Settings.{Settings}
-use Rattle.daide_io.specs.Deadline.{IsNotBefore}
+use Rattle.daide_sockets.specs.Clock.{IsNotBefore, IsAtMost}
 use Rattle.daide_io.specs.Network.{NetworkCall}
 use Rattle.daide_io.specs.Ports.{PortCall}
 use Rattle.daide_io.specs.ReadyQueue.{is_queued}
@@ -23,7 +23,7 @@ use Rattle.daide_event_loop.proofs.AcceptLemmas.{none_queued, rounds_length}
 use Rattle.daide_event_loop.proofs.RestingLemmas.{resting_sessions_are_idle}
 use Rattle.daide_event_loop.proofs.WaitingLemmas.{is_absent}
 use Rattle.daide_sockets.specs.declared.socket.Socket.{Socket}
-use Rattle.daide_sockets.specs.InTime.{IsAtMost, arming_all}
+use Rattle.daide_sockets.specs.Table.{arming_all}
 use Rattle.daide_sockets.specs.Sockets.{is_some_byte}
 use Rattle.daide_sockets.specs.Table.{Table, AreDeadlinesBounded, IsPollTime}
 use Rattle.daide_sockets.specs.Wakeups.{SessionSockets, Wakes, session_due}

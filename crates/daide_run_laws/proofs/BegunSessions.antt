@@ -10,7 +10,7 @@ use Rattle.daide_io.specs.System.{SystemCall, Polls, Shows, Accepts, Connects, B
 use Rattle.daide_io.specs.declared.system.Connect.TheVariants.{Ready, Failed, Pending}
 use Rattle.daide_sockets.specs.Scheduling.{RunState, SameTimes, Schedules}
 use Rattle.daide_sockets.specs.Timers.{SessionTimers, BeginsAt}
-use Rattle.daide_sockets.specs.Times.{IsIdleTime, IsSeconds}
+use Rattle.daide_sockets.specs.Clock.{IsIdleTime, IsSeconds}
 use Rattle.daide_run_laws.specs.FreedPlaces.{IsReading}
 use Rattle.daide_run_laws.proofs.TimedSessions.{BeginsTimed}
 

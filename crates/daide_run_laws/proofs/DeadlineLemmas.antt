@@ -24,10 +24,10 @@ use Rattle.daide_settings.specs.declared.settings.Settings.{Settings}
 use Rattle.daide_event_loop.specs.Serving.{Round}
 use Rattle.daide_event_loop.specs.Served.{run_limits}
 use Rattle.daide_event_loop.specs.Waiting.{MakesNoProgress, IsOfTurn, IsIdleSession}
-use Rattle.daide_sockets.specs.InTime.{arming_all}
+use Rattle.daide_sockets.specs.Table.{arming_all}
 use Rattle.daide_sockets.specs.Table.{Table, IsPollTime, deadline_at}
 use Rattle.daide_sockets.specs.Timers.{SessionTimers}
-use Rattle.daide_sockets.specs.Times.{is_past}
+use Rattle.daide_sockets.specs.Clock.{is_past}
 use Rattle.daide_sockets.specs.Wakeups.{SessionSockets, KeepsPlace, session_due}
 use Rattle.daide_run_laws.specs.FreedPlaces.{IsTimed, HasDeadline, NoSessionWaitsForEver}
 use Rattle.daide_run_laws.proofs.AsleepLemmas.{RestsAt, rests_at, ends_by, none_waits}

@@ -18,10 +18,8 @@ use Rattle.daide_io.specs.Streams.{StreamCall}
 use Rattle.daide_io.specs.Ports.{PortCall, TurnBegins, Clock, Pulled, Offered, EvolvesBy}
 use Rattle.daide_event_loop.specs.Waiting.{MakesNoProgress, IsOfTurn}
 use Rattle.daide_sockets.specs.declared.socket.Socket.{Socket}
-use Rattle.daide_sockets.specs.Sockets.{due_after, next_deadline}
-use Rattle.daide_io.specs.Deadline.{earlier}
+use Rattle.daide_sockets.specs.Clock.{due_after, next_deadline, earlier, IsStallEnd, StallsNext, has_stalled, is_past}
 use Rattle.daide_sockets.specs.Timers.{SessionTimers, StallGoesOn, PullsInTime, PutsInTime, SetsTimers, SameClock}
-use Rattle.daide_sockets.specs.Times.{IsStallEnd, StallsNext, has_stalled, is_past}
 use Rattle.daide_sockets.specs.Wakeups.{IsOffered, session_due}
 use Rattle.daide_run_laws.proofs.TurnSettled.{AreSettled}
 use Rattle.daide_run_laws.proofs.TimedSessions.{own, KeepsStall, step_stall, step_silence, step_idle_time, IsTimedNow, end_there}

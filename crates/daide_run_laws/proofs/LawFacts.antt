@@ -22,10 +22,9 @@ use Rattle.daide_event_loop.specs.Serving.{ServiceView, Round, Rounds, initial_s
 use Rattle.daide_event_loop.specs.Served.{IsServed}
 use Rattle.daide_sockets.specs.Accepting.{is_bot_due, AcceptsThenConnects}
 use Rattle.daide_sockets.specs.declared.ports.SocketPorts.{SocketPorts}
-use Rattle.daide_sockets.specs.InTime.{IsAtMost}
+use Rattle.daide_sockets.specs.Clock.{IsAtMost, IsNoTime, is_past}
 use Rattle.daide_sockets.specs.Pairing.{is_vacant}
-use Rattle.daide_sockets.specs.Table.{Table, IsNoTime}
-use Rattle.daide_sockets.specs.Times.{is_past}
+use Rattle.daide_sockets.specs.Table.{Table}
 use Rattle.daide_sockets.specs.Scheduling.{RunState, Schedules, AwaitsBots, RunEvolves, HasRoomForBot, HoldsRows}
 use Rattle.daide_sockets.specs.Timers.{SessionTimers}
 use Rattle.daide_sockets.specs.Wakeups.{SessionSockets, Wakes, session_due}

@@ -15,10 +15,8 @@ use Rattle.daide_io.specs.Network.{NetworkCall}
 use Rattle.daide_io.specs.ReadyQueue.{one_if}
 use Rattle.daide_io.specs.Ports.{PortCall, TurnBegins, Clock, Pulled, Offered, EvolvesBy}
 use Rattle.daide_sockets.specs.declared.socket.Socket.{Socket}
-use Rattle.daide_sockets.specs.Sockets.{due_after, next_deadline}
-use Rattle.daide_io.specs.Deadline.{earlier}
+use Rattle.daide_sockets.specs.Clock.{due_after, next_deadline, earlier, IsStallEnd, has_stalled, is_past}
 use Rattle.daide_sockets.specs.Timers.{SessionTimers, BeginsAt, BeginsInTime, PullsInTime, KeepsTimers, SetsTimers, is_got}
-use Rattle.daide_sockets.specs.Times.{IsStallEnd, has_stalled, is_past}
 use Rattle.daide_sockets.specs.Wakeups.{session_due}
 use Rattle.daide_run_laws.specs.FreedPlaces.{IsLater, ClockGoesOn, peer_timeouts_left, timeouts_left}
 use Rattle.daide_run_laws.specs.FreedPlaces.{is_overdue, overdue_turns, deliveries, DeadlinesPassSeldom}

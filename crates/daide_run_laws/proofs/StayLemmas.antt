@@ -13,7 +13,7 @@ use Rattle.daide_io.specs.declared.ports.Put.TheVariants.{Took}
 use Rattle.daide_io.specs.Ports.{PortCall, TurnBegins, Clock, Pulled, Offered, EvolvesBy}
 use Rattle.daide_sockets.specs.declared.socket.Socket.{Socket}
 use Rattle.daide_sockets.specs.Timers.{SessionTimers, StallGoesOn, FlushesInTime, BeginsInTime, PullsInTime, PutsInTime, StallsAfterPut, SetsTimers, is_got}
-use Rattle.daide_sockets.specs.Times.{StallsNext}
+use Rattle.daide_sockets.specs.Clock.{StallsNext}
 use Rattle.daide_run_laws.specs.FreedPlaces.{held_len, MovesNoByte, KeepsTimeouts, IsQuietFor, TimeoutsStay}
 use Rattle.daide_run_laws.proofs.TimedSessions.{PortsSetTimers, own, step_stall}
 

@@ -11,7 +11,7 @@ use Rattle.daide_io.specs.declared.ports.Pull.{Pull}
 use Rattle.daide_io.specs.Ports.{PortCall, TurnBegins, Clock, Pulled, Offered, EvolvesBy}
 use Rattle.daide_sockets.specs.declared.socket.Socket.{Socket}
 use Rattle.daide_sockets.specs.Timers.{SessionTimers, BeginsAt, KeepsTimers, PullsInTime, SetsTimers, is_got}
-use Rattle.daide_sockets.specs.Times.{IsAfter, IsStallEnd}
+use Rattle.daide_sockets.specs.Clock.{IsAfter, IsStallEnd}
 use Rattle.daide_run_laws.specs.NoLostWakeups.{socket_at}
 use Rattle.daide_run_laws.specs.FreedPlaces.{HasTimeouts, IsReading, IsLater, ClockGoesOn}
 

@@ -20,12 +20,10 @@ use Rattle.daide_settings.specs.declared.settings.Settings.{Settings}
 use Rattle.daide_event_loop.specs.Serving.{ServiceView, Round, Rounds, initial_service}
 use Rattle.daide_event_loop.specs.Served.{IsServed}
 use Rattle.daide_sockets.specs.declared.socket.Socket.{Socket}
-use Rattle.daide_sockets.specs.InTime.{IsAtMost}
-use Rattle.daide_sockets.specs.Sockets.{due_after}
+use Rattle.daide_sockets.specs.Clock.{IsAtMost, due_after, IsSeconds, IsIdleTime, is_past}
 use Rattle.daide_sockets.specs.Table.{Table}
 use Rattle.daide_sockets.specs.Scheduling.{RunState, Schedules}
 use Rattle.daide_sockets.specs.Timers.{SessionTimers, is_got}
-use Rattle.daide_sockets.specs.Times.{IsSeconds, IsIdleTime, is_past}
 use Rattle.daide_sockets.specs.Wakeups.{Wakes, PollsForPlaces, session_due}
 use Rattle.daide_run_laws.specs.NoLostWakeups.{socket_at}
 

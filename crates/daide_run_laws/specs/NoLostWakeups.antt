@@ -17,7 +17,7 @@ use Rattle.daide_settings.specs.declared.settings.Settings.{Settings}
 use Rattle.daide_event_loop.specs.Serving.{ServiceView, Round, Rounds, initial_service, have_all_come}
 use Rattle.daide_buffered_io.specs.Streams.{stream_of}
 use Rattle.daide_sockets.specs.declared.socket.Socket.{Socket}
-use Rattle.daide_sockets.specs.InTime.{IsAtMost}
+use Rattle.daide_sockets.specs.Clock.{IsAtMost}
 use Rattle.daide_sockets.specs.Lingering.{IsWriting}
 use Rattle.daide_sockets.specs.Scheduling.{RunState, Schedules, AwaitsBots}
 use Rattle.daide_sockets.specs.Table.{Table, is_reported_at, key_of}

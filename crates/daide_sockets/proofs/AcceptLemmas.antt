@@ -13,7 +13,7 @@ use Rattle.daide_sockets.specs.Accepting.{AcceptsOnce, AcceptsOneBot, BringsBot,
 use Rattle.daide_sockets.specs.Accepting.{Fails, MayNotCome, IsRefused, TriesOn, IsUnreached, IsLate, TriedAll}
 use Rattle.daide_sockets.specs.Table.{Table, freed, listener_key, report_at, without_report}
 use Rattle.daide_sockets.specs.KeptRows.{ChangesRows}
-use Rattle.daide_sockets.specs.Times.{IsAfter, is_past}
+use Rattle.daide_sockets.specs.Clock.{IsAfter, is_past}
 use Rattle.daide_sockets.proofs.KeptRowLemmas.{changes_more, changes_then, freed_changes, report_cleared}
 
 -- the end of a pause that began at a reading is not past

@@ -5,8 +5,9 @@ use Rattle.std.proofs.Math.Seq.{drop-cons}
 use Rattle.std.proofs.lemmas.List.Elements.{All-nil, All-cons, All-head, All-tail}
 use Rattle.std.specs.declared.time.Duration.{Duration}
 use Rattle.std.specs.declared.time.Instant.{Instant}
-use Rattle.daide_sockets.specs.Beside.{may_close_on, closing_due, closings_armed, others_armed, WaitsAreInTimeBeside}
-use Rattle.daide_sockets.specs.InTime.{IsInTimeFor, arming_all}
+use Rattle.daide_sockets.specs.PollTimes.{may_close_on, closing_due, closings_armed, others_armed, WaitsAreInTimeBeside}
+use Rattle.daide_sockets.specs.Clock.{IsInTimeFor}
+use Rattle.daide_sockets.specs.Table.{arming_all}
 use Rattle.daide_sockets.specs.Lingering.{ClosingStream}
 use Rattle.daide_sockets.specs.Table.{Table, arming}
 use Rattle.daide_sockets.specs.declared.table.Row.{Row}

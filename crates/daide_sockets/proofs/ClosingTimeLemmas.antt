@@ -12,7 +12,7 @@ use Rattle.daide_buffered_io.specs.Calls.{is_last_piece}
 use Rattle.daide_io.specs.Streams.{StreamCall}
 use Rattle.daide_io.specs.System.{SystemCall, Polls, Shows, Accepts, Connects, BeginsTurn, Rests, Retires, Notifies, TransitsBy}
 use Rattle.daide_io.specs.declared.system.Connect.TheVariants.{Ready, Failed, Pending}
-use Rattle.daide_sockets.specs.Beside.{closing_due, stage_due}
+use Rattle.daide_sockets.specs.PollTimes.{closing_due, stage_due}
 use Rattle.daide_sockets.specs.ClosingTime.{IsReadingFor, ReadingsGoOn, LingersBy, overdue_looks, ClosesSince, IsClosingInTime}
 use Rattle.daide_sockets.specs.ClosingTime.{IsWithinBound, bound_of, readings_of}
 use Rattle.daide_sockets.specs.ClosingTime.{ClosingSocketsLeave}
@@ -22,8 +22,7 @@ use Rattle.daide_sockets.specs.Lingering.{begins_closing, with_report, end_time,
 use Rattle.daide_sockets.specs.Pairing.{Paired, ClosesAt, with_room}
 use Rattle.daide_sockets.specs.Scheduling.{RunState, ClosesByClock}
 use Rattle.daide_sockets.specs.Sockets.{is_some_byte}
-use Rattle.daide_io.specs.Deadline.{earlier}
-use Rattle.daide_sockets.specs.Times.{IsAfter, IsStallEnd, StallsNext, has_stalled, is_past, is_time_over}
+use Rattle.daide_sockets.specs.Clock.{earlier, IsAfter, IsStallEnd, StallsNext, has_stalled, is_past, is_time_over}
 
 pub later_contains : {A : Type 0} (first : A) (rest : List A) (one : A) → Contains rest one → Contains (first ∷ rest) one
 later_contains first rest one c = let inside = c.1 in (suc c.0, omega (arith, inside), c.2)

@@ -12,7 +12,7 @@ use Rattle.daide_sockets.specs.KeptRows.{ChangesRows}
 use Rattle.daide_sockets.specs.Pairing.{Arriving, Paired, IsFresh, IsJoined, StaysPending, arrival_at}
 use Rattle.daide_sockets.specs.Scheduling.{RestsForConnect}
 use Rattle.daide_sockets.specs.Table.{Table, deadline_at, key_of, merged, report_at, resting}
-use Rattle.daide_sockets.specs.Times.{is_past}
+use Rattle.daide_sockets.specs.Clock.{is_past}
 use Rattle.daide_sockets.proofs.KeptRowLemmas.{rests_until, same_deadlines}
 
 -- the key of a row of a place that has both

@@ -5,9 +5,9 @@ use Rattle.std.specs.declared.time.Instant.{Instant}
 use Rattle.daide_io.specs.Network.{NetworkCall}
 use Rattle.daide_io.specs.Streams.{StreamCall}
 use Rattle.daide_sockets.specs.declared.table.Row.{Row}
-use Rattle.daide_sockets.specs.Beside.{closings_armed}
+use Rattle.daide_sockets.specs.PollTimes.{closings_armed}
 use Rattle.daide_sockets.specs.Finishing.{Finish, FinishRound, FinishesFor, WaitsOnce}
-use Rattle.daide_sockets.specs.InTime.{arming_all}
+use Rattle.daide_sockets.specs.Table.{arming_all}
 use Rattle.daide_sockets.specs.Lingering.{ClosingStream}
 use Rattle.daide_sockets.specs.Rows.{AreRowsOf, taken_at}
 use Rattle.daide_sockets.specs.Table.{Table, IsPollTime, PollsOnce, disarmed}

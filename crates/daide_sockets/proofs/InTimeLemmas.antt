@@ -5,9 +5,9 @@ use Rattle.std.proofs.lemmas.List.Elements.{All-nil, All-cons}
 use Rattle.std.specs.Time.{instant_nanos}
 use Rattle.std.specs.declared.time.Duration.{Duration}
 use Rattle.std.specs.declared.time.Instant.{Instant}
-use Rattle.daide_io.specs.Deadline.{earlier}
-use Rattle.daide_sockets.specs.Table.{Table, arming, IsUntil, IsNoTime, IsPollTime, IsPollTimeIf}
-use Rattle.daide_sockets.specs.InTime.{IsAtMost, IsInTimeFor, arming_all, WaitsAreInTime}
+use Rattle.daide_sockets.specs.Clock.{earlier, IsUntil, IsNoTime, IsAtMost, IsInTimeFor}
+use Rattle.daide_sockets.specs.Table.{Table, arming, IsPollTime, IsPollTimeIf, arming_all}
+use Rattle.daide_sockets.specs.PollTimes.{WaitsAreInTime}
 
 -- a moment that is no later than another
 abbrev pub IsBy : Option Instant → Instant → Type 0

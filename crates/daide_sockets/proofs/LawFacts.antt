@@ -11,15 +11,15 @@ use Rattle.daide_io.specs.declared.system.Connect.TheVariants.{Ready, Failed}
 use Rattle.daide_io.specs.Streams.{StreamCall}
 use Rattle.daide_sockets.specs.Pairing.{Paired, RunSockets, Transits, pending_connects}
 use Rattle.daide_sockets.specs.Lingering.{ClosingStream}
-use Rattle.daide_sockets.specs.Beside.{WaitsAreInTimeBeside, may_close_on, closing_due, others_armed}
+use Rattle.daide_sockets.specs.PollTimes.{WaitsAreInTimeBeside, may_close_on, closing_due, others_armed, WaitsAreInTime}
 use Rattle.daide_sockets.specs.Accounted.{SocketsAreAccounted}
 use Rattle.daide_sockets.specs.PairedOnce.{SessionsComeOnce, one_if_same}
 use Rattle.daide_sockets.specs.ClosingTime.{ReadingsGoOn, overdue_looks, bound_of, readings_of, IsClosingInTime, ClosingSocketsLeave}
 use Rattle.daide_sockets.specs.Scheduling.{RunState, ClosesByClock}
-use Rattle.daide_sockets.specs.Table.{Table, IsPollTime}
-use Rattle.daide_sockets.specs.InTime.{WaitsAreInTime, IsInTimeFor, arming_all}
+use Rattle.daide_sockets.specs.Table.{Table, IsPollTime, arming_all}
+use Rattle.daide_sockets.specs.Clock.{IsInTimeFor}
 use Rattle.daide_sockets.specs.Control.{has_work_at}
-use Rattle.daide_sockets.specs.ControlInTime.{IsPlaceInTime, ControlWaitsAreInTime}
+use Rattle.daide_sockets.specs.PollTimes.{IsPlaceInTime, ControlWaitsAreInTime}
 use Rattle.daide_sockets.specs.ControlSlots.{is_place_free, has_free, is_control_due, arming_control}
 use Rattle.daide_sockets.specs.declared.control.Control.{Control}
 use Rattle.daide_sockets.specs.declared.listener.Listener.{Listener}

@@ -15,7 +15,7 @@ use Rattle.daide_buffered_io.specs.Buffers.{Buffer, Passes, WritesNothing, IsBuf
 use Rattle.daide_buffered_io.specs.Calls.{is_last_piece}
 use Rattle.daide_io.specs.Streams.{StreamCall}
 use Rattle.daide_sockets.specs.Pairing.{with_room}
-use Rattle.daide_sockets.specs.Times.{StallsNext, has_stalled, is_time_over}
+use Rattle.daide_sockets.specs.Clock.{StallsNext, has_stalled, is_time_over}
 use Rattle.daide_sockets.specs.Lingering.{ClosingStream, ClosingList, Discards, Lingers, Leaves, IsLookedAt, LooksAtOne}
 use Rattle.daide_sockets.specs.Lingering.{LooksAtEach, LooksAlong, IsWriting, IsWritingOver, ClosingsGoOn, GoOnFor, is_released}
 use Rattle.daide_sockets.specs.Lingering.{TriesWriting, LooksAround, IsReleasedNow}

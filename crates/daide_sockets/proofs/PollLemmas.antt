@@ -10,7 +10,7 @@ use Rattle.daide_io.specs.Network.{NetworkCall}
 use Rattle.daide_io.specs.ReadyQueue.{is_among}
 use Rattle.daide_sockets.specs.declared.table.Row.{Row}
 use Rattle.daide_sockets.specs.Table.{Table, PollsOnce, WakesPlaces, deadline_at, event_places, key_of, report_at, row_at, with_events}
-use Rattle.daide_sockets.specs.Times.{is_past}
+use Rattle.daide_sockets.specs.Clock.{is_past}
 use Rattle.daide_sockets.specs.Wakeups.{PollsPlaces}
 use Rattle.daide_sockets.proofs.TableLemmas.{row_untouched}
 

@@ -15,8 +15,8 @@ use Rattle.daide_sockets.specs.KeptRows.{ChangesRows}
 use Rattle.daide_sockets.specs.Rows.{AreRowsOf, KeepsClosingRows, taken_at}
 use Rattle.daide_sockets.specs.Table.{Table, IsPollTime, PollsOnce, changed, deadline_at, deadline_in, first_closing, key_of, latest, listener_key}
 use Rattle.daide_sockets.specs.Table.{merged, report_at, report_of, row_at, disarmed, arming, with_event, with_events}
-use Rattle.daide_sockets.specs.Times.{is_past}
-use Rattle.daide_sockets.specs.InTime.{arming_all}
+use Rattle.daide_sockets.specs.Clock.{is_past}
+use Rattle.daide_sockets.specs.Table.{arming_all}
 use Rattle.daide_sockets.specs.Wakeups.{GoesUnpolled, KeepsPlace, PollsForPlaces, PollsPlaces}
 use Rattle.daide_sockets.specs.declared.control.Control.{Control}
 use Rattle.daide_sockets.specs.declared.listener.Listener.{Listener}

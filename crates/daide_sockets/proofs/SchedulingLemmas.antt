@@ -6,10 +6,11 @@ use Rattle.daide_io.specs.Network.{NetworkCall}
 use Rattle.daide_io.specs.System.{Polls}
 use Rattle.daide_io.specs.declared.system.Orders.{Orders}
 use Rattle.daide_sockets.specs.Accepting.{is_bot_due}
-use Rattle.daide_sockets.specs.Beside.{listener_armed, others_armed}
-use Rattle.daide_sockets.specs.InTime.{arming_all}
+use Rattle.daide_sockets.specs.PollTimes.{listener_armed, others_armed}
+use Rattle.daide_sockets.specs.Table.{arming_all}
 use Rattle.daide_sockets.specs.Scheduling.{RunState, Schedules, AwaitsBots}
-use Rattle.daide_sockets.specs.Table.{IsNoTime, IsPollTime}
+use Rattle.daide_sockets.specs.Table.{IsPollTime}
+use Rattle.daide_sockets.specs.Clock.{IsNoTime}
 use Rattle.daide_sockets.specs.Timers.{SessionTimers}
 use Rattle.daide_sockets.proofs.BesideLemmas.{beside_in_time}
 

@@ -10,13 +10,12 @@ use Rattle.std.specs.declared.time.Instant.{Instant}
 use Rattle.daide_frame.specs.declared.side.Side.{Side}
 use Rattle.daide_frame.specs.declared.side.Side.TheVariants.{Bot, Server}
 use Rattle.daide_io.specs.declared.network.SocketEvent.{SocketEvent}
-use Rattle.daide_io.specs.Deadline.{earlier, IsNotBefore}
+use Rattle.daide_sockets.specs.Clock.{earlier, IsNotBefore, is_past}
 use Rattle.daide_io.specs.ReadyQueue.{ReadyView, is_same, is_among, occurrences_of, woken, woken_all}
 use Rattle.daide_io.proofs.ReadyLemmas.{occurrences_both, same_is_one, woken_both}
 use Rattle.daide_sockets.specs.declared.table.Row.{Row}
 use Rattle.daide_sockets.specs.Table.{Table, WakesPlaces, AreBounded, changed, deadline_at, deadline_in, event_places, key_of, row_at, row_or_free}
 use Rattle.daide_sockets.specs.Table.{with_event, with_events}
-use Rattle.daide_sockets.specs.Times.{is_past}
 
 -- ---- deadlines
 

@@ -12,7 +12,7 @@ use Rattle.daide_buffered_io.specs.declared.readiness.Readiness.{Readiness}
 use Rattle.daide_sockets.specs.declared.admission.Acceptor.{Acceptor}
 use Rattle.daide_sockets.specs.declared.listener.Listener.{Listener}
 use Rattle.daide_sockets.specs.Table.{Table, listener_key, merged, report_at}
-use Rattle.daide_sockets.specs.Times.{IsAfter, is_past}
+use Rattle.daide_sockets.specs.Clock.{IsAfter, is_past}
 
 -- no bot is accepted for this many nanoseconds after a failed accept
 abbrev pub accept_pause : ℕ

@@ -8,11 +8,11 @@ use Rattle.daide_buffered_io.specs.Buffers.{Buffer}
 use Rattle.daide_buffered_io.specs.declared.readiness.Readiness.{Readiness}
 use Rattle.daide_io.specs.Streams.{StreamCall}
 use Rattle.daide_io.specs.System.{SystemCall, TransitsBy}
-use Rattle.daide_sockets.specs.Beside.{closing_due}
+use Rattle.daide_sockets.specs.PollTimes.{closing_due}
 use Rattle.daide_sockets.specs.Lingering.{ClosingStream, IsClosingBound, begins_closing, WritesOut, Lingers, end_time}
 use Rattle.daide_sockets.specs.Pairing.{Paired}
 use Rattle.daide_sockets.specs.Scheduling.{RunState, ClosesByClock}
-use Rattle.daide_sockets.specs.Times.{is_past}
+use Rattle.daide_sockets.specs.Clock.{is_past}
 
 -- ---- the premise
 

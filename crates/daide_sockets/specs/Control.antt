@@ -17,7 +17,7 @@ use Rattle.daide_status.specs.declared.request.ControlRequest.TheVariants.{Statu
 use Rattle.daide_status.specs.declared.snapshot.RunStatus.{RunStatus}
 use Rattle.daide_status.specs.declared.snapshot.SessionRow.{SessionRow}
 use Rattle.daide_status.specs.declared.text.StatusText.{StatusText}
-use Rattle.daide_sockets.specs.Times.{is_past}
+use Rattle.daide_sockets.specs.Clock.{is_past}
 use Rattle.daide_sockets.specs.ControlAnswer.{reply_text, Begins, Adds, Finishes}
 use Rattle.daide_sockets.specs.declared.control_answer.Answer.{Answer}
 use Rattle.daide_sockets.specs.declared.control_answer.Answer.TheVariants.{UnknownRequest}

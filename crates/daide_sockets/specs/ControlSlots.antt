@@ -10,7 +10,7 @@ use Rattle.daide_status.specs.declared.snapshot.SessionRow.{SessionRow}
 use Rattle.daide_sockets.specs.Accepting.{is_accept_due}
 use Rattle.daide_sockets.specs.Control.{Advances, ShowsOn, has_control_work, control_due, stops_at, stops_now_at, gathers_at}
 use Rattle.daide_sockets.specs.Table.{Table, control_connection_key, control_key, first_closing, listener_key, merged, report_at, arming}
-use Rattle.daide_sockets.specs.Times.{IsAfter}
+use Rattle.daide_sockets.specs.Clock.{IsAfter}
 use Rattle.daide_sockets.specs.declared.control.Control.{Control}
 use Rattle.daide_sockets.specs.declared.control.Slots.{Slots}
 use Rattle.daide_sockets.specs.declared.control_connection.ControlConnection.{ControlConnection}

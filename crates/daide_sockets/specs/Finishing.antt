@@ -4,9 +4,9 @@ use Rattle.std.specs.declared.time.Duration.{Duration}
 use Rattle.std.specs.declared.time.Instant.{Instant}
 use Rattle.daide_io.specs.Network.{NetworkCall}
 use Rattle.daide_io.specs.Streams.{StreamCall}
-use Rattle.daide_sockets.specs.Beside.{closings_armed}
+use Rattle.daide_sockets.specs.PollTimes.{closings_armed}
 use Rattle.daide_sockets.specs.Lingering.{ClosingList, LooksAround, in_pass}
-use Rattle.daide_sockets.specs.InTime.{arming_all}
+use Rattle.daide_sockets.specs.Table.{arming_all}
 use Rattle.daide_sockets.specs.Table.{Table, IsPollTime, PollsOnce, disarmed}
 
 -- The network is polled once, for the time of a poll that may block and watches these alone, each with work or without it, and

@@ -12,7 +12,7 @@ use Rattle.daide_buffered_io.specs.Buffers.{Buffer, Passes, ReadsNothing, Writes
 use Rattle.daide_buffered_io.specs.Calls.{is_last_piece}
 use Rattle.daide_io.specs.Streams.{StreamCall}
 use Rattle.daide_sockets.specs.Table.{merged}
-use Rattle.daide_sockets.specs.Times.{IsAfter, StallsNext, has_stalled, is_past, is_time_over}
+use Rattle.daide_sockets.specs.Clock.{IsAfter, StallsNext, has_stalled, is_past, is_time_over}
 
 -- a closing stream: the key of its row; what is known of it without a call; its peer's stall timeout, and when that
 -- expires; how many more bytes may be dropped; the deadline of its release, none before its writing is over; and the bound

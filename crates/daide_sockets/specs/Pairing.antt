@@ -10,7 +10,7 @@ use Rattle.daide_buffered_io.specs.declared.readiness.Readiness.{Readiness}
 use Rattle.daide_io.specs.Streams.{StreamCall, IsSameStream}
 use Rattle.std.specs.declared.time.Instant.{Instant}
 use Rattle.daide_sockets.specs.declared.present.Bot.{Bot}
-use Rattle.daide_sockets.specs.Times.{IsAfter}
+use Rattle.daide_sockets.specs.Clock.{IsAfter}
 use Rattle.daide_sockets.specs.Lingering.{ClosingStream, ClosingList, IsClosingBound, begins_closing, WritesOut, ClosingsGoOn}
 
 -- ---- values

@@ -1,9 +1,10 @@
 -- What the sockets of a run schedule: the timeouts with which sessions begin, accepts, and what a poll watches. (own)
-use Rattle.std.specs.Prelude.{◌≡◌, ℕ, ◌<◌, Bool, true, false, List, length, Option, Some, None}
+use Rattle.std.specs.Prelude.{◌≡◌, ◌≢◌, ℕ, ◌<◌, Bool, true, false, List, length, Option, Some, None}
 use Rattle.std.specs.declared.net.socket_addr.SocketAddr.{SocketAddr}
 use Rattle.std.specs.declared.time.Duration.{Duration}
+use Rattle.std.specs.declared.time.Instant.{Instant}
 use Rattle.daide_frame.specs.declared.side.Side.TheVariants.{Server}
-use Rattle.daide_io.specs.Network.{NetworkCall}
+use Rattle.daide_io.specs.Network.{NetworkCall, ReadsClock, Listens, ListensForControl}
 use Rattle.daide_io.specs.Streams.{StreamCall}
 use Rattle.daide_io.specs.System.{SystemCall, Polls, Shows, Accepts, Connects, BeginsTurn, Rests, Retires, Notifies}
 use Rattle.daide_io.specs.declared.system.Connect.TheVariants.{Ready, Failed, Pending}
@@ -11,14 +12,14 @@ use Rattle.daide_buffered_io.specs.Buffers.{Buffer}
 use Rattle.daide_sockets.specs.declared.admission.Acceptor.{Acceptor}
 use Rattle.daide_sockets.specs.declared.ports.SocketPorts.{SocketPorts}
 use Rattle.daide_sockets.specs.Accepting.{is_bot_due, may_connect, AcceptsThenConnects}
-use Rattle.daide_sockets.specs.Beside.{listener_armed, others_armed}
+use Rattle.daide_sockets.specs.PollTimes.{listener_armed, others_armed}
 use Rattle.daide_sockets.specs.Lingering.{ClosingList, LooksAround, in_pass}
 use Rattle.daide_sockets.specs.Pairing.{Arriving, Paired, RunSockets, is_vacant, arrival_at, ClosesAt, ClosesBothAt, Transits}
 use Rattle.daide_sockets.specs.KeptRows.{KeepsBeside}
 use Rattle.daide_sockets.specs.Rows.{AreRowsOf, closing_keys}
-use Rattle.daide_sockets.specs.Table.{Table, IsNoTime, deadline_at, key_of}
+use Rattle.daide_sockets.specs.Table.{Table, control_key, deadline_at, key_of, listener_key}
+use Rattle.daide_sockets.specs.Clock.{IsNoTime, is_past}
 use Rattle.daide_sockets.specs.Timers.{SessionTimers, BeginsAt, timers_of}
-use Rattle.daide_sockets.specs.Times.{is_past}
 use Rattle.daide_sockets.specs.Wakeups.{Wakes, PollsForPlaces}
 
 -- The sockets of a run: its network and its table; the timeouts of each peer, of its silence and of a stall, none for
@@ -41,6 +42,19 @@ run_state polled times acceptor arrivals closing = record {
   arrivals = arrivals;
   closing = closing;
 }
+
+-- The network of a run begins: its clock is read, then its listener for bots is followed, and then that for control
+-- connections, if it has one.
+pub record BeginsListening {N C : Type 0} (transition : N → NetworkCall C → N → Type 0) (table : Table) (old new : N) :
+    Type 0 where
+  pub reading : Option Instant
+  pub read : N
+  pub listening : N
+  pub is_followed : Option Bool
+  pub clock : transition old (ReadsClock reading) read
+  pub listens : transition read (Listens (listener_key table) true) listening
+  pub control : transition listening (ListensForControl (control_key table) is_followed) new
+  pub followed : is_followed ≢ Some false
 
 -- the number of bots that came, those whose connects are pending, and the closing streams
 abbrev pub sockets_in : {N S : Type 0} → RunState N S → RunSockets S

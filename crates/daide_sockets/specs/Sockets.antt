@@ -3,8 +3,7 @@ use Rattle.std.specs.Prelude.{ℕ, Bool, true, false, ◌||◌, ◌&&◌, not, L
 use Rattle.std.specs.declared.time.Instant.{Instant}
 use Rattle.daide_buffered_io.specs.Buffers.{Buffer}
 use Rattle.daide_buffered_io.specs.declared.readiness.Readiness.{Readiness}
-use Rattle.daide_io.specs.Deadline.{earlier}
-use Rattle.daide_sockets.specs.Times.{is_past}
+use Rattle.daide_sockets.specs.Clock.{earlier, is_past}
 
 -- the readiness of a socket that is read once more in any case, if that is so
 abbrev pub read_if : Bool → Readiness → Readiness
@@ -25,11 +24,3 @@ is_some_byte (byte ∷ bytes) = true
 abbrev pub has_socket_work : {S : Type 0} → Buffer S → Readiness → Bool → Bool
 has_socket_work stream known tries_again =
     tries_again || ((is_some_byte stream.write_buffer && not stream.has_failed) && known.may_write)
-
--- the deadline of a timer after a turn that began at this reading of the clock: none once it is past
-abbrev pub due_after : Option Instant → Option Instant → Option Instant
-due_after now due = if is_past now due then None else due
-
--- The next deadline of a peer's timeouts. An idle timeout that is over is none, since the next pull reports it.
-abbrev pub next_deadline : Option Instant → Option Instant → Option Instant → Option Instant
-next_deadline now stalls_at silent_from = earlier stalls_at (due_after now silent_from)

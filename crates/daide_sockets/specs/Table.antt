@@ -10,8 +10,7 @@ use Rattle.daide_frame.specs.declared.side.Side.TheVariants.{Bot, Server}
 use Rattle.daide_buffered_io.specs.declared.readiness.Readiness.{Readiness}
 use Rattle.daide_io.specs.declared.network.SocketEvent.{SocketEvent}
 use Rattle.daide_sockets.specs.declared.table.Row.{Row}
-use Rattle.daide_io.specs.Deadline.{earlier, IsNotBefore}
-use Rattle.daide_sockets.specs.Times.{is_past}
+use Rattle.daide_sockets.specs.Clock.{earlier, IsNotBefore, is_past, IsNoTime, IsUntil}
 use Rattle.daide_io.specs.Network.{NetworkCall, Polls, ReadsClock}
 use Rattle.daide_io.specs.ReadyQueue.{is_among}
 
@@ -178,6 +177,11 @@ abbrev pub arming : Table → Bool → Option Instant → Table
 arming table has_work due =
     record table { armed_work = table.armed_work || has_work; armed_due = earlier table.armed_due due }
 
+-- those that are watched, each with work or without it, and with its nearest deadline
+abbrev pub arming_all : Table → List (Bool × Option Instant) → Table
+arming_all table [] = table
+arming_all table (one ∷ others) = arming_all (arming table one.0 one.1) others
+
 -- nothing is watched
 abbrev pub disarmed : Table → Table
 disarmed table = record table { armed_work = false; armed_due = None }
@@ -227,18 +231,6 @@ pub record WakesPlaces (socket_events : List SocketEvent) (woken : List ℕ) (ol
   pub same : new ≡ record old { deadlines = new.deadlines; due = new.due }
 
 -- ---- the time of a poll
-
--- the time from a reading of the clock until a moment: none without either
-abbrev pub IsUntil : Option Instant → Option Instant → Option Duration → Type 0
-IsUntil None moment time = time ≡ None
-IsUntil (Some now) None time = time ≡ None
-IsUntil (Some now) (Some moment) None = ⊥
-IsUntil (Some now) (Some moment) (Some time) = as_nanos time ≡ instant_nanos moment - instant_nanos now
-
--- no time at all
-abbrev pub IsNoTime : Option Duration → Type 0
-IsNoTime None = ⊥
-IsNoTime (Some time) = as_nanos time ≡ 0
 
 abbrev pub IsPollTimeIf : Bool → Table → Option Duration → Type 0
 IsPollTimeIf false table time = IsNoTime time

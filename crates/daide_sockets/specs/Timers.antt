@@ -14,8 +14,7 @@ use Rattle.daide_buffered_io.specs.Streams.{Transfers, stream_of}
 use Rattle.daide_sockets.specs.declared.socket.Socket.{Socket}
 use Rattle.daide_sockets.specs.declared.ports.SocketPorts.{SocketPorts}
 use Rattle.daide_sockets.specs.Lingering.{IsWriting, IsWritingOver}
-use Rattle.daide_sockets.specs.Sockets.{due_after}
-use Rattle.daide_sockets.specs.Times.{IsStallEnd, StallsNext, has_stalled, is_past}
+use Rattle.daide_sockets.specs.Clock.{due_after, IsStallEnd, StallsNext, has_stalled, is_past}
 use Rattle.daide_sockets.specs.Wakeups.{SessionSockets, Settles}
 
 -- The sockets of a session with their deadlines; the idle timeout of its peers; whether the deadline of the initial message

@@ -11,7 +11,7 @@ use Rattle.daide_io.specs.declared.ports.Put.{Put}
 use Rattle.daide_io.specs.declared.ports.Put.TheVariants.{Took}
 use Rattle.daide_io.specs.declared.system.Connect.{Connect}
 use Rattle.daide_io.specs.declared.system.Connect.TheVariants.{Ready, Failed, Pending}
-use Rattle.daide_io.specs.Deadline.{earlier}
+use Rattle.daide_sockets.specs.Clock.{earlier, next_deadline, is_past}
 use Rattle.daide_io.specs.Network.{NetworkCall, ReadsClock, Listens, AcceptsConnection, StopsListening, ListensForControl}
 use Rattle.daide_io.specs.Network.{AcceptsControl, BeginsConnect, Follows, AsksConnect}
 use Rattle.daide_io.specs.Network as Networks
@@ -23,9 +23,8 @@ use Rattle.daide_buffered_io.specs.declared.readiness.Readiness.{Readiness}
 use Rattle.daide_buffered_io.specs.Calls.{OnlyPuts}
 use Rattle.daide_buffered_io.specs.Streams.{stream_of}
 use Rattle.daide_sockets.specs.declared.socket.Socket.{Socket}
-use Rattle.daide_sockets.specs.Sockets.{has_socket_work, next_deadline}
-use Rattle.daide_sockets.specs.Times.{is_past}
-use Rattle.daide_sockets.specs.InTime.{arming_all}
+use Rattle.daide_sockets.specs.Sockets.{has_socket_work}
+use Rattle.daide_sockets.specs.Table.{arming_all}
 use Rattle.daide_sockets.specs.Table.{Table, AreDeadlinesBounded, PollsOnce, IsPollTime, merged, report_at, is_reported_at}
 use Rattle.daide_sockets.specs.Table.{key_of, listener_key, deadline_at, resting, without_reports}
 

@@ -7,18 +7,18 @@ ghost use Rattle.std.specs.Duration.{as_nanos};
 ghost use Rattle.std.specs.Net.Socket.{socket_ip};
 ghost use Rattle.std.specs.Prelude.{◌≡◌, ◌⊎◌, ℕ, ◌+◌, ◌<◌, ◌≤◌, ◌++◌, ◌∷◌, [], Some, None, Err, true, false, IfOk, IfErr, IfSome, IfNone, IsSome, length};
 ghost use Rattle.daide_buffered_io.specs.Buffers.{Buffer};
-ghost use Rattle.daide_io.specs.Network.{AsksConnect, StopsListening};
+ghost use Rattle.daide_io.specs.Network.{AsksConnect, Listens, StopsListening};
 ghost use Rattle.daide_settings.specs.Ranges.{host_of, may_come};
 ghost use Rattle.daide_sockets.specs.Accepting.{is_bot_due, may_connect, AcceptsOnce, AcceptsOneBot, BringsBot};
 ghost use Rattle.daide_sockets.specs.Accepting.{AsksAtMostOnce, BringsNoBot, ConnectsFrom, TriesOn, GivesConnection, Pauses};
-ghost use Rattle.daide_sockets.specs.Beside.{listener_armed};
+ghost use Rattle.daide_sockets.specs.PollTimes.{listener_armed};
 ghost use Rattle.daide_sockets.specs.KeptRows.{ChangesRows};
 ghost use Rattle.daide_sockets.specs.Pairing.{ConnectsTo, StaysPending, IsFreshConnect, IsFresh, IsJoined, pending_connects};
 ghost use Rattle.daide_sockets.specs.Present.{HasRoomForOne, bot_from, hosts_of};
 ghost use Rattle.daide_sockets.specs.Scheduling.{pair_of};
 ghost use Rattle.daide_sockets.specs.Table.{listener_key, merged, report_at, arming};
 ghost use Rattle.daide_sockets.specs.Timers.{BeginsAt, timers_of};
-ghost use Rattle.daide_sockets.specs.Times.{IsAfter, is_past};
+ghost use Rattle.daide_sockets.specs.Clock.{IsAfter, is_past};
 
 use crate::listener::Listener;
 use crate::poller::Poller;
@@ -52,6 +52,8 @@ impl Acceptor {
     pub fn new<N: Network>(poller: &mut Poller<N>) -> Option<Acceptor>
         ensures begins { IfSome result (λ acceptor. (acceptor.came ≡ 0) × (acceptor.listener.resumes_at ≡ None)
             × (acceptor.awaits_bots ≡ false) × (acceptor.is_closed ≡ false)) }
+        ensures listens { IsSome result → N.transition poller.old.network (Listens (listener_key poller.old.table) true)
+            poller.new.network }
         ensures table { poller.new.table ≡ poller.old.table }
     {
         let key = poller.table.listener_key();

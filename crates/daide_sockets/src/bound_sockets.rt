@@ -5,8 +5,9 @@ ghost use Rattle.daide_sockets.specs.Addresses.{AreAddressesOf, IsBindCause, IsL
 ghost use Rattle.daide_sockets.specs.Lingering.{no_closing};
 ghost use Rattle.daide_sockets.specs.Pairing.{pending_connects};
 ghost use Rattle.daide_sockets.specs.Rows.{AreRowsOf, closing_keys};
+ghost use Rattle.daide_sockets.specs.Scheduling.{BeginsListening};
 ghost use Rattle.daide_sockets.specs.Table.{new_table};
-ghost use Rattle.daide_sockets.specs.Times.{IsSeconds, IsIdleTime};
+ghost use Rattle.daide_sockets.specs.Clock.{IsSeconds, IsIdleTime};
 
 use crate::addresses::{AddressFault, listener_on, looked_up};
 use crate::lingering_close::MOST_CLOSING;
@@ -145,6 +146,8 @@ pub fn sockets_on<'w, N: Network, E: Write + Drop>(
     ensures none_came { IfSome result (λ sockets. (sockets.acceptor.came ≡ 0) × (sockets.is_verbose ≡ false)) }
     ensures none_pending { IfSome result (λ sockets. (pending_connects sockets.arrivals.items ≡ 0)
         × (sockets.closings ≡ no_closing sockets.stall_time)) }
+    ensures listens { IfSome result (λ sockets.
+        BeginsListening N.transition sockets.poller.table resources.entry.0 sockets.poller.network) }
     ensures im_time { IfSome result (λ sockets. IsSeconds settings.now.im_seconds sockets.im_time) }
     ensures idle_time { IfSome result (λ sockets. IsIdleTime settings.now.idle_seconds sockets.idle_time) }
     ensures stall_time { IfSome result (λ sockets. IsIdleTime settings.now.stall_seconds sockets.stall_time

@@ -2,7 +2,8 @@
 //!
 //! They are read and written at each poll, each once, so no session waits for them. The next poll watches them.
 
-ghost use Rattle.std.specs.Prelude.{◌≡◌, ◌<◌, [], ◌∷◌, false, true, IfSome, None};
+ghost use Rattle.std.specs.Prelude.{◌≡◌, ◌≢◌, ◌<◌, Bool, Option, [], ◌∷◌, false, true, IfSome, IsSome, None, Some};
+ghost use Rattle.daide_io.specs.Network.{ListensForControl};
 ghost use Rattle.daide_sockets.specs.Snapshot.{seconds_between, or_zero};
 ghost use Rattle.daide_sockets.specs.Control.{gathers_at, stops_at, stops_now_at};
 ghost use Rattle.daide_sockets.specs.ControlSlots.{places, Each, at_some, IsControlRow, PlaceAdvances, PlacesAdvance, PlaceShows};
@@ -10,7 +11,7 @@ ghost use Rattle.daide_sockets.specs.ControlSlots.{at_place, has_free, is_contro
 ghost use Rattle.daide_sockets.specs.ControlSlots.{MakesControlAccept, AcceptsOne, arming_control, BeginsRound};
 ghost use Rattle.daide_sockets.specs.ControlSlots.{is_listener_due};
 ghost use Rattle.daide_sockets.specs.KeptRows.{ChangesRows};
-ghost use Rattle.daide_sockets.specs.Table.{Table, report_at};
+ghost use Rattle.daide_sockets.specs.Table.{Table, control_key, report_at};
 ghost use Rattle.daide_sockets.specs.Wakeups.{GoesUnpolled};
 
 use crate::control_connection::ControlConnection;
@@ -290,7 +291,10 @@ pub struct Control<S: Duplex + Drop> {
 
 /// Has the listener of the control socket followed, if the network has one. Returns `None` if the system refuses.
 fn listener_of<N: Network>(poller: &mut Poller<N>) -> Option<Option<Listener>>
-    ensures { poller.new.table ≡ poller.old.table }
+    ensures table { poller.new.table ≡ poller.old.table }
+    ensures listens { IsSome result → (is_followed : Option Bool) × (is_followed ≢ Some false)
+        × N.transition poller.old.network (ListensForControl (control_key poller.old.table) is_followed)
+        poller.new.network }
 {
     let key = poller.table.control_key();
     match poller.network.listen_for_control(key) {
@@ -309,6 +313,9 @@ impl<S: Duplex + Drop> Control<S> {
     ) -> Option<Control<S>>
         ensures no_orders { IfSome result (λ control. (control.stops_accepting ≡ false) × (control.stops_now ≡ false)) }
         ensures free { IfSome result (λ control. places control.slots ≡ None ∷ None ∷ None ∷ None ∷ []) }
+        ensures listens { IsSome result → (is_followed : Option Bool) × (is_followed ≢ Some false)
+            × N.transition poller.old.network (ListensForControl (control_key poller.old.table) is_followed)
+            poller.new.network }
         ensures table { poller.new.table ≡ poller.old.table }
     {
         let listener = listener_of(poller)?;

@@ -2,13 +2,14 @@
 
 ghost use Rattle.std.specs.Prelude.{◌≡◌, [], None};
 ghost use Rattle.daide_sockets.specs.Table.{merged};
-ghost use Rattle.daide_sockets.specs.Times.{is_past};
+ghost use Rattle.daide_sockets.specs.Clock.{is_past};
 ghost use Rattle.daide_sockets.specs.Control.{Hears, Receives, BeginsReply, stage_after, WritesOn, Completes, StaysOpen, Advances, ShowsOn};
 ghost use Rattle.daide_sockets.specs.Control.{has_control_work, control_due, gathers_at, stops_at, stops_now_at};
 
+use crate::clock::is_past;
 use crate::control_answer::{Answer, add, begun, finished};
 use crate::control_request::{Judgement, LONGEST_REQUEST, at_end, judgement_of};
-use crate::table::{is_past, merged};
+use crate::table::merged;
 use arrayvec::ArrayVec;
 use daide_buffered_io::calls::{pull_from, put_to};
 use daide_buffered_io::readiness::Readiness;

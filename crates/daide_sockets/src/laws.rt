@@ -1,10 +1,8 @@
 //! Laws of the sockets of a run: functions with no parameters and an empty body, whose contracts are the laws.
 
 ghost use Rattle.daide_sockets.specs.Accounted.{SocketsAreAccounted};
-ghost use Rattle.daide_sockets.specs.Beside.{WaitsAreInTimeBeside};
+ghost use Rattle.daide_sockets.specs.PollTimes.{WaitsAreInTimeBeside, ControlWaitsAreInTime, WaitsAreInTime};
 ghost use Rattle.daide_sockets.specs.ClosingTime.{ClosingSocketsLeave};
-ghost use Rattle.daide_sockets.specs.ControlInTime.{ControlWaitsAreInTime};
-ghost use Rattle.daide_sockets.specs.InTime.{WaitsAreInTime};
 ghost use Rattle.daide_sockets.specs.PairedOnce.{SessionsComeOnce};
 
 use daide_io::duplex::Duplex;

@@ -17,6 +17,7 @@ pub mod addresses;
 pub mod admission;
 pub mod bound_sockets;
 pub mod capacity;
+mod clock;
 pub mod connection;
 pub mod control;
 mod control_answer;

@@ -11,9 +11,9 @@ ghost use Rattle.daide_io.specs.Ports.{AppendsTo};
 ghost use Rattle.daide_io.specs.Streams.{IsSameStream, StreamCall, WritingEnded};
 ghost use Rattle.daide_buffered_io.specs.Buffers.{Passes, ReadsNothing, WritesNothing, with_stream};
 ghost use Rattle.daide_sockets.specs.Accepting.{FollowsAtMostOnce};
-ghost use Rattle.daide_sockets.specs.Beside.{may_close_on, closing_due, stage_due, closings_armed};
+ghost use Rattle.daide_sockets.specs.PollTimes.{may_close_on, closing_due, stage_due, closings_armed};
 ghost use Rattle.daide_sockets.specs.Finishing.{FinishesAll, WaitsOnce};
-ghost use Rattle.daide_sockets.specs.InTime.{arming_all};
+ghost use Rattle.daide_sockets.specs.Table.{arming_all};
 ghost use Rattle.daide_sockets.specs.Lingering.{ClosingStream, ClosingList, IsClosingBound, begins_closing, no_closing, TriesWriting, WritesOut};
 ghost use Rattle.daide_sockets.specs.Lingering.{Discards, is_released, LingersOn, LeavesNow, with_report, LooksAtOne, LooksAlong};
 ghost use Rattle.daide_sockets.specs.Lingering.{in_pass, LooksAround, GoOnFor};
@@ -22,12 +22,12 @@ ghost use Rattle.daide_sockets.specs.Rows.{AreRowsOf, KeepsClosingRows, closing_
 ghost use Rattle.daide_sockets.specs.Scheduling.{pair_of};
 ghost use Rattle.daide_sockets.specs.Table.{IsFull, TakesRow, freed, report_at, arming, without_report, without_reports};
 
+use crate::clock::{after, earlier, is_past, is_time_over};
 use crate::poller::Poller;
 use crate::ports::SocketPorts;
 use crate::socket::Socket;
-use crate::table::{SocketTable, after, is_past, is_time_over, merged};
+use crate::table::{SocketTable, merged};
 use daide_buffered_io::dropping::Dropping;
-use daide_io::deadline::earlier;
 use daide_io::duplex::Duplex;
 use daide_io::network::Network;
 use std::alloc::{AllocError, Global};

@@ -6,9 +6,10 @@ ghost use Rattle.std.specs.Option.{is_some};
 ghost use Rattle.std.specs.Prelude.{◌≡◌, ◌⊎◌, IsSome, None, Some, true, false};
 ghost use Rattle.daide_sockets.specs.Accepting.{is_accept_due, accept_pause, Pauses};
 ghost use Rattle.daide_sockets.specs.Table.{without_report};
-ghost use Rattle.daide_sockets.specs.Times.{IsAfter, is_past};
+ghost use Rattle.daide_sockets.specs.Clock.{IsAfter, is_past};
 
-use crate::table::{SocketTable, after, is_past};
+use crate::clock::{after, is_past};
+use crate::table::SocketTable;
 use std::io::ErrorKind;
 use std::time::{Duration, Instant};
 

@@ -2,7 +2,8 @@
 
 ghost use Rattle.std.specs.Prelude.{◌≡◌, ℕ, List, Option, IfOk};
 ghost use Rattle.std.specs.declared.time.Duration.{Duration};
-ghost use Rattle.daide_io.specs.Network.{Follows};
+ghost use Rattle.std.specs.declared.time.Instant.{Instant};
+ghost use Rattle.daide_io.specs.Network.{Follows, ReadsClock};
 ghost use Rattle.daide_io.specs.ReadyQueue.{woken_all};
 ghost use Rattle.daide_sockets.specs.Table.{PollsOnce, IsPollTime, freed};
 ghost use Rattle.daide_sockets.specs.Wakeups.{PollsPlaces};
@@ -29,7 +30,9 @@ pub struct Poller<N: Network> {
 impl<N: Network> Poller<N> {
     /// Creates the poller of a network, and reads the clock. Fails if its memory is refused.
     pub fn new(alloc: Global, network: N, table: SocketTable) -> Result<Poller<N>, AllocError>
-        ensures { IfOk result (λ poller. poller.table ≡ record table { reading = poller.table.reading }) }
+        ensures table { IfOk result (λ poller. poller.table ≡ record table { reading = poller.table.reading }) }
+        ensures clock { IfOk result (λ poller. (reading : Option Instant)
+            × N.transition network (ReadsClock reading) poller.network) }
     {
         let socket_events = Vec::with_capacity(alloc, EVENTS)?;
         let mut poller = Poller {

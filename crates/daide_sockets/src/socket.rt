@@ -5,7 +5,7 @@
 //! bytes that this returned and accepted.
 
 ghost use Rattle.std.specs.Prelude.{◌≡◌, ◌⊎◌, ℕ, ◌+◌, ◌<◌, ◌||◌, ◌&&◌, nat_lt, Bool, IsNone, IfSome, IfNone, None, [], min, length, take, true, false};
-ghost use Rattle.daide_io.specs.Deadline.{earlier};
+ghost use Rattle.daide_sockets.specs.Clock.{earlier, next_deadline, StallsNext, has_stalled, is_past};
 ghost use Rattle.daide_io.specs.Network.{Follows};
 ghost use Rattle.daide_io.specs.Ports.{IsPullWithin, IsPutWithin, pulled_len};
 ghost use Rattle.daide_io.specs.Streams.{IsSameStream};
@@ -14,19 +14,18 @@ ghost use Rattle.daide_buffered_io.specs.Calls.{OnlyPuts};
 ghost use Rattle.daide_buffered_io.specs.Taking.{bytes_taken, taken_len};
 ghost use Rattle.daide_sockets.specs.Lingering.{IsWriting, IsWritingOver};
 ghost use Rattle.daide_sockets.specs.Pairing.{IsFresh};
-ghost use Rattle.daide_sockets.specs.Sockets.{after_move, has_socket_work, next_deadline};
+ghost use Rattle.daide_sockets.specs.Sockets.{after_move, has_socket_work};
 ghost use Rattle.daide_sockets.specs.Table.{freed, merged, no_report, report_at, without_report};
 ghost use Rattle.daide_sockets.specs.Timers.{IsStallKept, FlushesInTime, BeginsInTime, PutsInTime};
-ghost use Rattle.daide_sockets.specs.Times.{StallsNext, has_stalled, is_past};
 ghost use Rattle.daide_sockets.specs.Wakeups.{StaysUnread, IsNothing, IsPulled, IsOffered};
 
+use crate::clock::{earlier, is_past, stalls_next};
 use crate::poller::Poller;
-use crate::table::{SocketTable, is_past, merged, stalls_next};
+use crate::table::{SocketTable, merged};
 use crate::timed::Timed;
 use daide_buffered_io::buffered::Buffered;
 use daide_buffered_io::pool::Pool;
 use daide_buffered_io::readiness::Readiness;
-use daide_io::deadline::earlier;
 use daide_io::duplex::Duplex;
 use daide_io::network::Network;
 use daide_io::ports::{Pull, Put};

@@ -11,21 +11,20 @@ ghost use Rattle.daide_status.specs.declared.snapshot.SessionRow.{SessionRow};
 ghost use Rattle.daide_settings.specs.BotsInAll.{bots_in_all};
 ghost use Rattle.daide_settings.specs.Ranges.{host_of, may_come};
 ghost use Rattle.daide_sockets.specs.Accepting.{is_bot_due, BringsNoBot, IsUnreached};
-ghost use Rattle.daide_sockets.specs.Beside.{listener_armed, others_armed};
+ghost use Rattle.daide_sockets.specs.PollTimes.{listener_armed, others_armed};
 ghost use Rattle.daide_sockets.specs.Capacity.{capacity_after};
 ghost use Rattle.daide_sockets.specs.ControlSlots.{Each, PlaceShows, places, arming_control};
 ghost use Rattle.daide_sockets.specs.Finishing.{FinishesAll};
-ghost use Rattle.daide_sockets.specs.InTime.{arming_all};
+ghost use Rattle.daide_sockets.specs.Table.{arming_all};
 ghost use Rattle.daide_sockets.specs.Lingering.{LooksAround, in_pass, GoOnFor, no_closing};
 ghost use Rattle.daide_sockets.specs.Pairing.{Arriving, ClosesBothAt, TakesOut, is_vacant, pending_connects};
 ghost use Rattle.daide_sockets.specs.Present.{AdmitsBot, HasRoomForOne, hosts_of, without_bot};
 ghost use Rattle.daide_sockets.specs.Rows.{AreRowsOf, KeepsClosingRows, closing_keys};
-ghost use Rattle.daide_sockets.specs.Scheduling.{RunEvolves, pair_of, run_state};
+ghost use Rattle.daide_sockets.specs.Scheduling.{BeginsListening, RunEvolves, pair_of, run_state};
 ghost use Rattle.daide_sockets.specs.Snapshot.{IsSessionRow};
-ghost use Rattle.daide_sockets.specs.Sockets.{due_after};
+ghost use Rattle.daide_sockets.specs.Clock.{due_after, IsSeconds, IsIdleTime, is_past};
 ghost use Rattle.daide_sockets.specs.Table.{Table, IsPollTime, disarmed};
 ghost use Rattle.daide_sockets.specs.Timers.{PortsEvolve};
-ghost use Rattle.daide_sockets.specs.Times.{IsSeconds, IsIdleTime, is_past};
 ghost use Rattle.daide_sockets.specs.Wakeups.{PollsPlaces};
 ghost use Rattle.daide_sockets.specs.declared.ports.SocketPorts.{SocketPorts as PortsOf};
 
@@ -35,6 +34,7 @@ mod orders;
 
 use crate::admission::{Acceptor, PendingConnection};
 use crate::capacity::Capacity;
+use crate::clock::idle_time_of;
 use crate::control::{Control, seconds_between};
 use crate::lingering_close::Closings;
 use crate::poller::Poller;
@@ -53,16 +53,6 @@ use std::alloc::{Allocator, Global};
 use std::io::Write;
 use std::net::SocketAddr;
 use std::time::Duration;
-
-/// Converts a timeout from seconds; 0 is `None`, for never.
-fn idle_time_of(seconds: u32) -> Option<Duration>
-    ensures { IsIdleTime seconds result }
-{
-    if seconds == 0 {
-        return None;
-    }
-    Some(Duration::from_secs(u64::from(seconds)))
-}
 
 /// The sockets of a run: its system. What each call does to them is one relation (`transition`, `RunEvolves`).
 /// `Transits` says what it does to the bots and to the sockets that close. An accept that returned true added one bot,
@@ -173,6 +163,8 @@ impl<'w, N: Network, E: Write + Drop> Sockets<'w, N, E> {
         ensures bots { IfSome result (λ sockets. (sockets.bots_in_all ≡ bots_in_all settings.now)
             × (sockets.acceptor.is_closed ≡ false)) }
         ensures none_present { IfSome result (λ sockets. sockets.present.bots.items ≡ []) }
+        ensures listens { IfSome result (λ sockets.
+            BeginsListening N.transition sockets.poller.table resources.entry.0 sockets.poller.network) }
         ensures rows { AreRowsOf resources.entry.2 [] → IfSome result (λ sockets. AreRowsOf sockets.poller.table
             (closing_keys sockets.closings.streams)) }
     {

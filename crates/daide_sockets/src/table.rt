@@ -8,16 +8,15 @@
 ghost use Rattle.std.specs.Duration.{as_nanos};
 ghost use Rattle.std.specs.Prelude.{◌≡◌, ℕ, List, [], ◌+◌, ◌*◌, ◌<◌, ◌≤◌, ◌||◌, true, false, min, length, slice_get, replicate, None, IsNone, IfSome, IfNone, IfOk};
 ghost use Rattle.daide_frame.specs.declared.side.Side.TheVariants.{Bot, Server};
-ghost use Rattle.daide_io.specs.Deadline.{earlier};
+ghost use Rattle.daide_sockets.specs.Clock.{earlier, IsUntil, IsAfter, is_past};
 ghost use Rattle.daide_io.specs.ReadyQueue.{is_among, woken_all};
-ghost use Rattle.daide_sockets.specs.Table.{AreBounded, AreDeadlinesBounded, ForgetsPlaces, IsFull, IsUntil, TakesRow, WakesPlaces};
+ghost use Rattle.daide_sockets.specs.Table.{AreBounded, AreDeadlinesBounded, ForgetsPlaces, IsFull, TakesRow, WakesPlaces};
 ghost use Rattle.daide_sockets.specs.Table.{deadline_in, event_places, forgotten, free_row, freed, row_at};
 ghost use Rattle.daide_sockets.specs.Table.{has_report, is_reported_at, key_of, latest, merged, new_table, report_at, resting, disarmed};
 ghost use Rattle.daide_sockets.specs.Table.{arming, with_event, with_events, without_report, without_reports};
-ghost use Rattle.daide_sockets.specs.Times.{IsAfter, IsStallEnd, StallsNext, is_past, is_time_over};
 
+use crate::clock::{after, earlier, is_past};
 use daide_buffered_io::readiness::Readiness;
-use daide_io::deadline::earlier;
 use daide_io::network::SocketEvent;
 use daide_io::ready_queue::ReadyQueue;
 use std::alloc::{AllocError, Allocator, Global};
@@ -80,67 +79,6 @@ impl Model for SocketTable {
     // each place has a deadline, which is not before `due`, and two rows
     ghost invariant = { λ t. (length t.deadlines.items ≡ t.places) × (2 * t.places + 6 ≤ vec_len t.rows)
         × AreBounded t.due t.deadlines.items };
-}
-
-/// Returns true if a moment is past at the last reading of the clock; false without a moment.
-pub(crate) fn is_past(now: Option<Instant>, moment: Option<Instant>) -> bool
-    ensures never { IsNone moment → result ≡ false }
-    ensures past { result ≡ is_past now moment }
-{
-    match (now, moment) {
-        (Some(now), Some(moment)) => now.checked_duration_since(moment).is_some(),
-        _ => false,
-    }
-}
-
-/// Returns true if a time that ends at this moment is over at the last reading of the clock; true without a moment.
-pub(crate) fn is_time_over(now: Option<Instant>, moment: Option<Instant>) -> bool
-    ensures { result ≡ is_time_over now moment }
-{
-    moment.is_none() || is_past(now, moment)
-}
-
-/// Returns the moment this long after a reading of the clock; `None` without a reading, or if the moment is out of
-/// range.
-pub(crate) fn after(now: Option<Instant>, duration: Duration) -> Option<Instant>
-    ensures { IsAfter now (as_nanos duration) result }
-{
-    match now {
-        None => None,
-        Some(now) => now.checked_add(duration),
-    }
-}
-
-/// Returns the moment at which a timeout expires that starts at this reading of the clock. Returns `None` for never.
-pub(crate) fn timeout_end(now: Option<Instant>, time: Option<Duration>) -> Option<Instant>
-    ensures { IsStallEnd now time result }
-{
-    match time {
-        None => None,
-        Some(time) => after(now, time),
-    }
-}
-
-/// Returns the moment at which the stall timeout expires after a write that leaves bytes queued. The timeout starts
-/// again if the peer took a byte, or if no byte was queued before.
-pub(crate) fn stalls_next(
-    time: Option<Duration>,
-    now: Option<Instant>,
-    before: Option<Instant>,
-    took: bool,
-) -> Option<Instant>
-    ensures { StallsNext time now before took result }
-{
-    match before {
-        None => timeout_end(now, time),
-        Some(moment) => {
-            if took {
-                timeout_end(now, time)
-            } else {
-                Some(moment)
-            }
-        }
-    }
 }
 
 /// Returns two reports of a socket together.

@@ -3,6 +3,7 @@
 ghost use Rattle.std.specs.Prelude.{◌≡◌, IfOk, IfSome, false, [], length};
 ghost use Rattle.daide_sockets.specs.Lingering.{no_closing};
 ghost use Rattle.daide_sockets.specs.Pairing.{pending_connects};
+ghost use Rattle.daide_sockets.specs.Scheduling.{BeginsListening};
 
 use crate::admission::{Acceptor, PendingConnection};
 use crate::control::Control;
@@ -85,6 +86,8 @@ impl<N: Network> Listening<N> {
             × (listening.control.stops_now ≡ false)) }
         ensures table { IfSome result (λ listening.
             listening.poller.table ≡ record table { reading = listening.poller.table.reading }) }
+        ensures listens { IfSome result (λ listening.
+            BeginsListening N.transition listening.poller.table network listening.poller.network) }
     {
         let Ok(mut poller) = Poller::new(alloc, network, table) else {
             return None;

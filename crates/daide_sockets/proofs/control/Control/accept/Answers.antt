@@ -1,7 +1,7 @@
 use Rattle.std.proofs.Common.{◌≡◌, ℕ, Option, ap, sym, subst, inr, refl, arith, rules}
 use Rattle.std.specs.Duration.{as_nanos}
 use Rattle.std.specs.declared.time.Instant.{Instant}
-use Rattle.daide_sockets.specs.Times.{IsAfter}
+use Rattle.daide_sockets.specs.Clock.{IsAfter}
 use Rattle.daide_sockets.proofs.ControlLemmas.{connection_row}
 use Rattle.daide_sockets.proofs.KeptRowLemmas.{changes_none, same_reading}
 use Rattle.daide_sockets.proofs.UnpolledLemmas.{none}

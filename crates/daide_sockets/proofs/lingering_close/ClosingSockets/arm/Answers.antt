@@ -1,6 +1,6 @@
 use Rattle.std.proofs.Common.{◌+◌, List, drop, sym, ap, ◌∙◌}
-use Rattle.daide_sockets.specs.Beside.{closings_armed}
-use Rattle.daide_sockets.specs.InTime.{arming_all}
+use Rattle.daide_sockets.specs.PollTimes.{closings_armed}
+use Rattle.daide_sockets.specs.Table.{arming_all}
 use Rattle.daide_sockets.specs.Lingering.{ClosingStream}
 use Rattle.daide_sockets.specs.Table.{Table}
 use Rattle.std.proofs.lemmas.List.{drop_all}

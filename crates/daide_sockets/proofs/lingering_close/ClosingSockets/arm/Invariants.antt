@@ -1,6 +1,6 @@
 use Rattle.std.proofs.Common.{◌≡◌, drop}
-use Rattle.daide_sockets.specs.Beside.{closings_armed}
-use Rattle.daide_sockets.specs.InTime.{arming_all}
+use Rattle.daide_sockets.specs.PollTimes.{closings_armed}
+use Rattle.daide_sockets.specs.Table.{arming_all}
 use Rattle.daide_sockets.proofs.lingering_close.ClosingSockets.arm.Given as goal
 
 -- the rest is still to be watched

@@ -1,6 +1,6 @@
 use Rattle.std.proofs.Common.{Bool, ap, refl, sym}
 use Rattle.std.specs.Prelude.{◌||◌}
-use Rattle.daide_sockets.specs.Times.{is_time_over}
+use Rattle.daide_sockets.specs.Clock.{is_time_over}
 use Rattle.daide_sockets.proofs.LingeringLemmas.{piece_dropped}
 use Rattle.daide_sockets.proofs.lingering_close.LingeringClose.drops_last.Goals as goal
 

@@ -1,5 +1,5 @@
 use Rattle.std.proofs.Common.{◌∙◌}
-use Rattle.daide_sockets.specs.Beside.{listener_armed}
+use Rattle.daide_sockets.specs.PollTimes.{listener_armed}
 use Rattle.daide_sockets.proofs.BesideLemmas.{beside_armed}
 use Rattle.daide_sockets.proofs.system.Sockets.arm_others.Goals as goal
 

@@ -1,6 +1,6 @@
 use Rattle.std.proofs.Common.{◌≡◌, true, false, refl}
-use Rattle.daide_sockets.specs.Beside.{listener_armed, others_armed}
-use Rattle.daide_sockets.specs.InTime.{arming_all}
+use Rattle.daide_sockets.specs.PollTimes.{listener_armed, others_armed}
+use Rattle.daide_sockets.specs.Table.{arming_all}
 use Rattle.daide_sockets.proofs.RunPollLemmas.{blocks_armed, is_armed}
 use Rattle.daide_sockets.proofs.system.Sockets.poll_places.Goals as goal
 use Rattle.daide_sockets.proofs.system.Sockets.poll_places.Goals.{then-may_block, else-may_block}

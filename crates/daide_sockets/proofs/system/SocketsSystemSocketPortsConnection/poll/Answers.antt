@@ -1,8 +1,8 @@
 use Rattle.std.proofs.Common.{ℕ, ◌<◌, ◌++◌, refl, sym, ap, ◌∙◌, subst}
 use Rattle.daide_io.specs.ReadyQueue.{ReadyView, woken_all}
 use Rattle.daide_io.proofs.ReadyLemmas.{woken_both}
-use Rattle.daide_sockets.specs.Beside.{listener_armed, others_armed}
-use Rattle.daide_sockets.specs.InTime.{arming_all}
+use Rattle.daide_sockets.specs.PollTimes.{listener_armed, others_armed}
+use Rattle.daide_sockets.specs.Table.{arming_all}
 use Rattle.daide_sockets.specs.Rows.{closing_keys}
 use Rattle.daide_sockets.specs.Table.{IsPollTime}
 use Rattle.daide_sockets.specs.declared.control.Control.{Control}

@@ -1,16 +1,29 @@
--- What a poll watches beside the places: the listener and the closing streams. (own)
-use Rattle.std.specs.Prelude.{◌||◌, ◌&&◌, not, Bool, true, List, [], ◌∷◌, Option, if◌then◌else◌, All}
+-- What a poll watches beside the places, and until when it may block: the listener, the closing streams and the control
+-- socket. (own)
+use Rattle.std.specs.Prelude.{◌≡◌, ◌||◌, ◌&&◌, not, Bool, true, false, List, [], ◌∷◌, Option, Some, None, if◌then◌else◌, All}
 use Rattle.std.specs.declared.time.Duration.{Duration}
 use Rattle.std.specs.declared.time.Instant.{Instant}
 use Rattle.daide_buffered_io.specs.declared.readiness.Readiness.{Readiness}
 use Rattle.daide_buffered_io.specs.Buffers.{Buffer}
-use Rattle.daide_io.specs.Deadline.{earlier}
 use Rattle.daide_sockets.specs.declared.admission.Acceptor.{Acceptor}
 use Rattle.daide_sockets.specs.Accepting.{is_bot_due}
-use Rattle.daide_sockets.specs.InTime.{IsInTimeFor, arming_all}
+use Rattle.daide_sockets.specs.Clock.{IsInTimeFor, earlier}
+use Rattle.daide_sockets.specs.Control.{has_control_work, control_due}
+use Rattle.daide_sockets.specs.ControlSlots.{places, has_free, is_control_due, arming_control}
 use Rattle.daide_sockets.specs.Lingering.{ClosingStream}
+use Rattle.daide_sockets.specs.declared.control.Control.{Control}
+use Rattle.daide_sockets.specs.declared.control_connection.ControlConnection.{ControlConnection}
+use Rattle.daide_sockets.specs.declared.listener.Listener.{Listener}
 use Rattle.daide_sockets.specs.Sockets.{is_some_byte}
-use Rattle.daide_sockets.specs.Table.{Table, IsPollTime, merged, report_at}
+use Rattle.daide_sockets.specs.Table.{Table, IsPollTime, arming_all, merged, report_at}
+
+-- ---- the places
+
+-- Each poll that may block is in time for each of those that it watches, and for the deadlines of the places.
+abbrev pub WaitsAreInTime : Type 0
+WaitsAreInTime = (table : Table) (armed : List (Bool × Option Instant)) (time : Option Duration) →
+    IsPollTime true (arming_all table armed) time →
+    All (λ one. IsInTimeFor table.reading time one.0 one.1) armed × IsInTimeFor table.reading time false table.due
 
 -- ---- a closing stream
 
@@ -67,3 +80,25 @@ WaitsAreInTimeBeside S = (table : Table) (time : Option Duration) (listener : Bo
     (closings : List (ClosingStream S)) →
     IsPollTime true (arming_all table (others_armed table listener closings)) time →
     IsInTimeBeside table time listener closings
+
+-- ---- the control socket
+
+-- a poll of this time is in time for the connection of a place, if there is one
+abbrev pub IsPlaceInTime : {S : Type 0} → Option Instant → Option Duration → Option (ControlConnection S) → Type 0
+IsPlaceInTime reading time None = Unit {0}
+IsPlaceInTime reading time (Some connection) =
+    IsInTimeFor reading time (has_control_work connection) (control_due connection)
+
+-- A poll of this time is in time for each connection, and for the listener while a place is free: whether an accept is due, and
+-- the end of a pause.
+pub record IsControlInTime {S : Type 0} (table : Table) (time : Option Duration) (control : Control S) :
+    Type 0 where
+  pub connections : All (IsPlaceInTime table.reading time) (places control.slots)
+  pub listener : (listener : Listener) → has_free (places control.slots) ≡ true → control.listener ≡ Some listener →
+      IsInTimeFor table.reading time (is_control_due table listener) listener.resumes_at
+
+-- each poll that may block is in time for the control socket that it watches, whatever it watches beside it
+abbrev pub ControlWaitsAreInTime : (S : Type 0) → Type 0
+ControlWaitsAreInTime S = (table : Table) (control : Control S) (others : List (Bool × Option Instant))
+    (time : Option Duration) → IsPollTime true (arming_all (arming_control table control) others) time →
+    IsControlInTime table time control
