@@ -57,9 +57,8 @@ class ErrorsFile:
         return self.file.fileno()
 
     def told(self):
-        """Returns the text that the program wrote."""
-        self.file.seek(0)
-        return self.file.read().decode(errors="replace")
+        """Returns the text that the program wrote. The position of its next write, which the file has too, stays."""
+        return os.pread(self.fileno(), os.fstat(self.fileno()).st_size, 0).decode(errors="replace")
 
     def close(self):
         """Closes the file."""
