@@ -4,41 +4,28 @@ use Rattle.std.proofs.Common.{refl, ◌∙◌}
 use Rattle.std.proofs.lemmas.List.{length-replicate}
 use Rattle.std.specs.Prelude.{replicate}
 use Rattle.std.specs.Result.{OnOk, IfErr}
-use Rattle.std.specs.declared.time.Duration.{Duration}
 use Rattle.std.specs.declared.time.Instant.{Instant}
+use Rattle.daide_io.specs.Network.{NetworkCall}
 use Rattle.daide_io.specs.Ports.{PortCall}
 use Rattle.daide_io.specs.ReadyQueue.{one_if}
+use Rattle.daide_io.specs.Streams.{StreamCall}
 use Rattle.daide_io.specs.System.{SystemCall, TransitsBy}
 use Rattle.daide_settings.specs.declared.settings.Settings.{Settings}
 use Rattle.daide_event_loop.specs.declared.serving.ServeFault.{ServeFault}
 use Rattle.daide_event_loop.specs.Served.{IsWholeRun}
 use Rattle.daide_event_loop.specs.Serving.{GivesUp}
-use Rattle.daide_io.specs.Streams.{StreamCall}
-use Rattle.daide_sockets.specs.Lingering.{ClosingList, no_closing}
-use Rattle.daide_sockets.specs.Pairing.{Arriving, Paired, RunSockets, Transits, pending_connects}
+use Rattle.daide_sockets.specs.declared.ports.SocketPorts.{SocketPorts}
+use Rattle.daide_sockets.specs.Finishing.{FinishesAll}
+use Rattle.daide_sockets.specs.Lingering.{ClosingList}
 use Rattle.daide_sockets.specs.Rows.{AreRowsOf}
+use Rattle.daide_sockets.specs.Scheduling.{RunEvolves, RunState}
 use Rattle.daide_sockets.specs.Table.{Table, free_row, new_table, row_at}
-use Rattle.daide_sockets.specs.Clock.{IsIdleTime}
 use Rattle.daide_run.specs.declared.gateway.GatewayFault.TheVariants as gateway_faults
 use Rattle.daide_run.specs.declared.running.RunFault.{RunFault}
-use Rattle.daide_run.specs.declared.running.RunFault.TheVariants.{Gateway}
+use Rattle.daide_run.specs.declared.running.RunFault.TheVariants.{Gateway, Memory, Record}
 use Rattle.daide_run.specs.declared.running.RunFault.TheVariants as run_faults
 use Rattle.daide_run.specs.Gateway.{Announces}
-use Rattle.daide_run.specs.Running.{HasNoSockets, RunsBy, RunsOn, RunEnds, RunEndsWith, TextRuns, ending_by}
-
--- a run on a system ends by the result of its loop
-pub ran_on : {P T : Type 0} (transition : T → SystemCall P → T → Type 0) (port_transition : P → PortCall → P → Type 0)
-    (settings : Settings) (failed : Type 0) (before after : Option (List ℕ)) (begun last : T)
-    (served : Result (Unit {0}) ServeFault) → Announces failed before after →
-    OnOk served ((trace : List (SystemCall P)) × TransitsBy transition begun trace last
-    × IsWholeRun port_transition settings trace) →
-    IfErr served (λ fault. (trace : List (SystemCall P)) × TransitsBy transition begun trace last
-    × GivesUp (λ n. Unit {0}) port_transition settings fault trace) →
-    RunsOn transition port_transition settings failed before after begun (ending_by served)
-ran_on transition port_transition settings failed before after begun last (Ok done) said whole given_up =
-    (said, last, whole.0, whole.1, whole.2)
-ran_on transition port_transition settings failed before after begun last (Err fault) said whole given_up =
-    (said, last, given_up.0, given_up.1, given_up.2)
+use Rattle.daide_run.specs.Running.{RunsBy, Serves, RunEnds, SettingsRun, TextRuns, IsBeforeRun, ending_by}
 
 -- a row among free rows is not taken
 free_there : (count key : ℕ) → one_if (row_at (replicate count free_row) key).is_taken ≡ 0
@@ -55,59 +42,92 @@ none_taken table places e = subst (λ (t : Table). AreRowsOf t []) (sym e) (reco
       ∙ sym (ap (λ (n : ℕ). 2 * n + 6 + 256) (length-replicate {A = Option Instant} places None));
 })
 
--- sockets to which no bot came, part by part
-pub none_yet : {S : Type 0} (seconds : ℕ) (time : Option Duration) (came : ℕ) (arrivals : List (Option (Arriving S)))
-    (closing : ClosingList S) → IsIdleTime seconds time → came ≡ 0 → pending_connects arrivals ≡ 0 → closing ≡ no_closing time →
-    HasNoSockets seconds (record { came = came; arrivals = arrivals; closing = closing })
-none_yet seconds time came arrivals closing idle e f g = (time, idle, e, f, g)
+module _ {N C P S : Type 0} (transition : N → NetworkCall C → N → Type 0) (to_give taken : S → Option (List ℕ))
+    (calls : S → Option (List StreamCall)) (ports_in : P → SocketPorts S) (port_transition : P → PortCall → P → Type 0) where
+  abbrev Evolves : RunState N S → SystemCall P → RunState N S → Type 0
+  Evolves = RunEvolves transition to_give taken calls ports_in
 
--- a system that is the same has the same sockets
-pub still_none : {S T : Type 0} (sockets_of : T → RunSockets S) (seconds : ℕ) (now before : T) → now ≡ before →
-    HasNoSockets seconds (sockets_of before) → HasNoSockets seconds (sockets_of now)
-still_none sockets_of seconds now before e h = subst (λ t. HasNoSockets seconds (sockets_of t)) (sym e) h
+  -- A system whose calls evolve the sockets of a run.
+  module _ {T : Type 0} (state_of : T → RunState N S) (step : T → SystemCall P → T → Type 0)
+      (evolves : (old : T) (call : SystemCall P) (new : T) → step old call new → Evolves (state_of old) call (state_of new)) where
+    states_go : (trace : List (SystemCall P)) (old new : T) → TransitsBy step old trace new →
+        TransitsBy Evolves (state_of old) trace (state_of new)
+    states_go [] old new e = ap state_of e
+    states_go (call ∷ trace) old new h =
+        (state_of h.0, evolves old call h.0 h.1, states_go trace h.0 new h.2)
 
--- A run on a system of which sockets are a part. Each call has its effect on them, whatever else it does, while this holds of
--- the system, which each call keeps.
-module _ {P S T : Type 0} (to_give taken : S → Option (List ℕ)) (calls : S → Option (List StreamCall))
-    (pair : P → Paired S) (transition : P → PortCall → P → Type 0) (sockets_of : T → RunSockets S)
-    (step : T → SystemCall P → T → Type 0) (Holds : T → Type 0) (moves : (old : T) (call : SystemCall P) (new : T) → Holds old →
-    step old call new → Holds new × Transits to_give taken calls pair (sockets_of old) call (sockets_of new)) where
-  -- the sockets of a system follow its calls
-  sockets_go : (trace : List (SystemCall P)) (old new : T) → Holds old → TransitsBy step old trace new →
-      TransitsBy (Transits to_give taken calls pair) (sockets_of old) trace (sockets_of new)
-  sockets_go [] old new holds e = ap sockets_of e
-  sockets_go (call ∷ trace) old new holds h =
-      let moved = moves old call h.0 holds h.1 in (sockets_of h.0, moved.1, sockets_go trace h.0 new moved.0 h.2)
+    -- a run on it ends by the result of its loop, and then waits
+    serves_from : (settings : Settings) (failed : Type 0) (before after : Option (List ℕ)) (begun ended : T)
+        (last : ClosingList S) (served : Result (Unit {0}) ServeFault) → Announces failed before after →
+        OnOk served ((trace : List (SystemCall P)) × TransitsBy step begun trace ended
+        × IsWholeRun port_transition settings trace) →
+        IfErr served (λ fault. (trace : List (SystemCall P)) × TransitsBy step begun trace ended
+        × GivesUp (λ n. Unit {0}) port_transition settings fault trace) →
+        FinishesAll transition to_give taken calls 18446744073709551615 (state_of ended).network
+        (state_of ended).table.reading (state_of ended).closing last →
+        Serves transition to_give taken calls ports_in port_transition settings failed before after (state_of begun) served
+    serves_from settings failed before after begun ended last (Ok done) said whole given_up waits = (
+      said,
+      record {
+        trace = whole.0;
+        ended = state_of ended;
+        last = last;
+        evolves = states_go whole.0 begun ended whole.1;
+        kind = whole.2;
+        finishes = waits;
+      },
+    )
+    serves_from settings failed before after begun ended last (Err fault) said whole given_up waits = (
+      said,
+      record {
+        trace = given_up.0;
+        ended = state_of ended;
+        last = last;
+        evolves = states_go given_up.0 begun ended given_up.1;
+        kind = given_up.2;
+        finishes = waits;
+      },
+    )
 
-  runs : (seconds : ℕ) (Kind : List (SystemCall P) → Type 0) (old last : T) → HasNoSockets seconds (sockets_of old) → Holds old →
-      ((trace : List (SystemCall P)) × TransitsBy step old trace last × Kind trace) →
-      RunsBy to_give taken calls pair seconds Kind
-  runs seconds Kind old last begun holds h =
-      (h.0, sockets_of old, sockets_of last, begun, sockets_go h.0 old last holds h.1, h.2)
+    -- the same from a state that is that of the system
+    pub serves_on : (settings : Settings) (failed : Type 0) (before after : Option (List ℕ)) (begun ended : T)
+        (opened : RunState N S) (last : ClosingList S) (served : Result (Unit {0}) ServeFault) → state_of begun ≡ opened →
+        Announces failed before after →
+        OnOk served ((trace : List (SystemCall P)) × TransitsBy step begun trace ended
+        × IsWholeRun port_transition settings trace) →
+        IfErr served (λ fault. (trace : List (SystemCall P)) × TransitsBy step begun trace ended
+        × GivesUp (λ n. Unit {0}) port_transition settings fault trace) →
+        FinishesAll transition to_give taken calls 18446744073709551615 (state_of ended).network
+        (state_of ended).table.reading (state_of ended).closing last →
+        Serves transition to_give taken calls ports_in port_transition settings failed before after opened served
+    serves_on settings failed before after begun ended opened last served same said whole given_up waits =
+        subst (λ (s : RunState N S).
+        Serves transition to_give taken calls ports_in port_transition settings failed before after s served)
+        same (serves_from settings failed before after begun ended last served said whole given_up waits)
 
-  pub run_ends : (settings : Settings) (failed : Type 0) (before after : Option (List ℕ)) (begun : T)
-      (result : Result (Unit {0}) RunFault) → RunsOn step transition settings failed before after begun result →
-      HasNoSockets settings.stall_seconds (sockets_of begun) → Holds begun →
-      RunEnds to_give taken calls pair transition settings failed before after result
-  run_ends settings failed before after begun (Ok done) h none holds =
-      (h.0, runs settings.stall_seconds (IsWholeRun transition settings) begun h.1 none holds (h.2, h.3, h.4))
-  run_ends settings failed before after begun (Err (Gateway (gateway_faults.Serve fault))) h none holds =
-      (h.0, runs settings.stall_seconds (GivesUp (λ n. Unit {0}) transition settings fault) begun h.1 none holds (h.2, h.3, h.4))
-  run_ends settings failed before after begun (Err (Gateway (gateway_faults.Name key))) h none holds = absurd h
-  run_ends settings failed before after begun (Err (Gateway (gateway_faults.Listen key cause))) h none holds = absurd h
-  run_ends settings failed before after begun (Err (Gateway gateway_faults.Memory)) h none holds = absurd h
-  run_ends settings failed before after begun (Err run_faults.Memory) h none holds = absurd h
-  run_ends settings failed before after begun (Err (run_faults.Record cause)) h none holds = absurd h
-  run_ends settings failed before after begun (Err (run_faults.Settings fault)) h none holds = absurd h
+  -- what does not begin without records does not begin with them
+  before_with : {F : Type 0} (records : Option F) (settings : Settings) (fault : RunFault) →
+      IsBeforeRun {F = Unit {0}} None settings fault → IsBeforeRun records settings fault
+  before_with records settings (Gateway fault) h = h
+  before_with records settings (Record cause) h = absurd (let none = h.1 in cc)
+  before_with records settings Memory h = absurd h
+  before_with records settings (run_faults.Settings fault) h = absurd h
 
-module _ {P S : Type 0} (to_give taken : S → Option (List ℕ)) (calls : S → Option (List StreamCall)) (pair : P → Paired S)
-    (transition : P → PortCall → P → Type 0) where
+  pub runs_with : {F : Type 0} (records : Option F) (settings : Settings) (failed : Type 0) (before after : Option (List ℕ))
+      (result : Result (Unit {0}) RunFault) →
+      SettingsRun {F = Unit {0}} None transition to_give taken calls ports_in port_transition settings failed before after result →
+      SettingsRun records transition to_give taken calls ports_in port_transition settings failed before after result
+  runs_with records settings failed before after result (inl h) =
+      inl (h.0, h.1, h.2, before_with records settings h.0 h.3)
+  runs_with records settings failed before after result (inr h) = inr h
+
   -- a run that ends well has printed `listening`
-  said : (settings : Settings) (failed : Type 0) (before after : Option (List ℕ))
-      (result : Result (Unit {0}) RunFault) → RunEnds to_give taken calls pair transition settings failed before after result →
-      OnOk result (Announces failed before after)
-  said settings failed before after (Ok done) ends = ends.0
-  said settings failed before after (Err fault) ends = tt
+  said_by : (settings : Settings) (failed : Type 0) (before after : Option (List ℕ)) (begun : RunState N S)
+      (served : Result (Unit {0}) ServeFault) →
+      Serves transition to_give taken calls ports_in port_transition settings failed before after begun served →
+      Announces failed before after
+  said_by settings failed before after begun (Ok done) serves = serves.0
+  said_by settings failed before after begun (Err fault) serves = serves.0
 
   -- a run that did not begin has not ended well
   ends_early : (failed : Type 0) (before after : Option (List ℕ)) (fault : RunFault) (result : Result (Unit {0}) RunFault) →
@@ -115,17 +135,29 @@ module _ {P S : Type 0} (to_give taken : S → Option (List ℕ)) (calls : S →
   ends_early failed before after fault (Ok done) e = absurd (cc)
   ends_early failed before after fault (Err other) e = tt
 
+  on_ok : (failed : Type 0) (before after : Option (List ℕ)) (result : Result (Unit {0}) RunFault) →
+      Announces failed before after → OnOk result (Announces failed before after)
+  on_ok failed before after (Ok done) said = said
+  on_ok failed before after (Err fault) said = tt
+
+  said : (settings : Settings) (failed : Type 0) (network : N) (before after : Option (List ℕ))
+      (result : Result (Unit {0}) RunFault) →
+      RunEnds transition to_give taken calls ports_in port_transition settings failed network before after result →
+      OnOk result (Announces failed before after)
+  said settings failed network before after result (inl h) = ends_early failed before after Memory result h.0
+  said settings failed network before after result (inr h) =
+      on_ok failed before after result (said_by settings failed before after h.0 h.2 h.4)
+
   said_with : {F : Type 0} (records : Option F) (settings : Settings) (failed : Type 0) (before after : Option (List ℕ))
       (result : Result (Unit {0}) RunFault) →
-      RunEndsWith records to_give taken calls pair transition settings failed before after result →
+      SettingsRun records transition to_give taken calls ports_in port_transition settings failed before after result →
       OnOk result (Announces failed before after)
-  said_with records settings failed before after result (inl ends) = said settings failed before after result ends
-  said_with records settings failed before after result (inr h) =
-      ends_early failed before after (run_faults.Record h.2) result h.3
+  said_with records settings failed before after result (inl h) = ends_early failed before after h.0 result h.1
+  said_with records settings failed before after result (inr h) = said settings failed h.0 before after result h.1
 
   pub text_said : {F : Type 0} (records : Option F) (text : List ℕ) (failed : Type 0) (before after : Option (List ℕ))
       (result : Result (Unit {0}) RunFault) →
-      TextRuns records to_give taken calls pair transition text failed before after result →
+      TextRuns records transition to_give taken calls ports_in port_transition text failed before after result →
       OnOk result (Announces failed before after)
   text_said records text failed before after result (inl h) =
       ends_early failed before after (run_faults.Settings h.0) result h.1

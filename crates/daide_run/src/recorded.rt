@@ -1,8 +1,8 @@
 //! The system of a run: its sockets, and the folder with a record of each session, if sessions are recorded. The ports of
 //! each session record their calls if it has a record.
 
-ghost use Rattle.std.specs.Prelude.{◌≡◌, ◌⊎◌, ℕ, []};
-ghost use Rattle.daide_sockets.specs.Lingering.{GoOnFor};
+ghost use Rattle.std.specs.Prelude.{◌≡◌};
+ghost use Rattle.daide_sockets.specs.Finishing.{FinishesAll};
 ghost use Rattle.daide_sockets.specs.Scheduling.{RunEvolves, run_state};
 
 use crate::folder::{Folder, SessionFile, end, log_if_ended};
@@ -73,11 +73,11 @@ impl<'s, 'w, 'f, N: Network, R: AllocGlobal + Files, C: Clock, E: Write + Drop> 
         moment_by(self.clock)
     }
 
-    /// Waits until the last sockets are closed. The closing sockets are advanced by rounds.
+    /// Waits until the last sockets are closed. The closing sockets are advanced by rounds, each of which polls the network.
     pub fn finish(&mut self)
-        ensures { (rounds : ℕ) × GoOnFor N.Connection.to_give N.Connection.taken
-            N.Connection.calls rounds self.old.sockets.now.closings self.new.sockets.now.closings
-            × ((self.new.sockets.now.closings.streams ≡ []) ⊎ (rounds ≡ u64.MAX)) }
+        ensures { FinishesAll N.transition N.Connection.to_give N.Connection.taken N.Connection.calls u64.MAX
+            self.old.sockets.now.poller.network self.old.sockets.now.poller.table.reading
+            self.old.sockets.now.closings self.new.sockets.now.closings }
     {
         self.sockets.finish();
     }

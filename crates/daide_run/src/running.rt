@@ -1,10 +1,10 @@
 //! A run of a text of settings: binds, serves until all bots were served, and finishes closing.
 
-ghost use Rattle.std.specs.Prelude.{◌≡◌, [], IfErr};
+ghost use Rattle.std.specs.Prelude.{◌≡◌, [], None, IfErr};
 ghost use Rattle.daide_log.specs.Recording.{HasFailed};
-ghost use Rattle.daide_run.specs.Running.{HasNoSockets, RunEnds, RunEndsWith, TextRuns, IsOfText, ending_by};
-ghost use Rattle.daide_sockets.specs.Rows.{AreRowsOf, closing_keys};
-ghost use Rattle.daide_sockets.specs.Scheduling.{pair_of};
+ghost use Rattle.daide_run.specs.Running.{RunEnds, Serves, SettingsRun, TextRuns, IsOfText, ending_by};
+ghost use Rattle.daide_sockets.specs.Rows.{AreRowsOf};
+ghost use Rattle.daide_sockets.specs.Scheduling.{run_state};
 
 use crate::folder::{Folder, SessionFile};
 use crate::gateway::{GatewayFault, bind, log_beginning, serve_on};
@@ -57,7 +57,7 @@ fn ending_of(served: Result<(), ServeFault>) -> Result<(), RunFault>
 
 /// What a run reports of its sessions beside their counts.
 #[derive(Clone, Copy)]
-struct SessionReports<'f, F: Files> {
+pub(crate) struct SessionReports<'f, F: Files> {
     /// Whether the beginning and the end of each session are logged.
     is_verbose: bool,
     /// The folder of the records, if sessions are recorded.
@@ -72,10 +72,10 @@ fn control_file<'a, R: Files>(rt: &'a R, settings: &'a Settings) -> Option<Contr
     }
 }
 
-/// Serves on sockets to which no bot came, and waits until the last sockets are closed. If there is a folder, it has a
-/// record of each session.
+/// Serves on the sockets of a run, and waits until the last sockets are closed. If there is a folder, it has a record of
+/// each session.
 fn serve_opened<
-    N: Network<Connection = Connection>,
+    N: Network,
     R: AllocGlobal + Clock,
     F: AllocGlobal + Files,
     O: Sink,
@@ -86,28 +86,32 @@ fn serve_opened<
     folder: Option<&Folder<'_, F>>,
     sockets: &mut Sockets<'_, N, E>,
     output: &mut O,
-) -> Result<(), RunFault>
-    requires none { HasNoSockets settings.now.stall_seconds (record {
-      came = sockets.old.acceptor.came;
-      arrivals = sockets.old.arrivals.items;
-      closing = sockets.old.closings;
-    }) }
-    requires rows { AreRowsOf sockets.old.poller.table (closing_keys sockets.old.closings.streams) }
-    ensures { RunEnds ⟦<Connection as Duplex>⟧.to_give ⟦<Connection as Duplex>⟧.taken ⟦<Connection as Duplex>⟧.calls
-        (λ ports. pair_of ports.ports)
-        ⟦<Recording<SocketPorts<'static, Connection>, SessionFile<F::File>> as Ports>⟧.transition settings.now
-        (HasFailed O.Fails) (O.contents output.old) (O.contents output.new) result }
+) -> Result<(), ServeFault>
+    ensures { Serves N.transition N.Connection.to_give N.Connection.taken N.Connection.calls (λ ports. ports.ports)
+        ⟦<Recording<SocketPorts<'static, N::Connection>, SessionFile<F::File>> as Ports>⟧.transition settings.now
+        (HasFailed O.Fails) (O.contents output.old) (O.contents output.new)
+        (run_state (sockets.old.poller.network, sockets.old.poller.table) (sockets.old.idle_time, sockets.old.stall_time)
+        sockets.old.acceptor sockets.old.arrivals.items sockets.old.closings) result }
 {
     let mut system = RecordedSockets::new(sockets, folder, rt);
     let served = serve_on(rt.alloc(), settings, &mut system, output);
     system.finish();
-    ending_of(served)
+    served
 }
 
-/// Serves over what was bound, with these settings: opens the sockets, serves on them, and finishes closing.
-fn serve_bound<
+/// Serves on a network whose listeners are bound, with these settings, the addresses of the server, a table and a pool:
+/// opens the sockets of the run, serves on them until all bots were served (`serve_on`), and waits for those that close.
+/// If there is a folder, it has a record of each session.
+///
+/// `runs`: it returns `Memory`, and wrote nothing. Or the listeners were followed from this value of the network on, and it
+/// wrote that it listens. Then the sockets evolved by the calls of a whole run of these settings, or, for a fault of
+/// serving, by those of a run that was given up for it. At last it waited for the sockets that close. So
+/// `sessions_come_once` and `bots_are_counted` hold of these calls.
+///
+/// Not said: the value of the network at the end, since it is dropped.
+pub(crate) fn run_on<
     'w,
-    N: Network<Connection = Connection>,
+    N: Network,
     R: AllocGlobal + Clock,
     F: AllocGlobal + Files,
     O: Sink,
@@ -121,16 +125,15 @@ fn serve_bound<
     errors: E,
 ) -> Result<(), RunFault>
     requires { AreRowsOf resources.2 [] }
-    ensures { RunEnds ⟦<Connection as Duplex>⟧.to_give ⟦<Connection as Duplex>⟧.taken ⟦<Connection as Duplex>⟧.calls
-        (λ ports. pair_of ports.ports)
-        ⟦<Recording<SocketPorts<'static, Connection>, SessionFile<F::File>> as Ports>⟧.transition settings.now
-        (HasFailed O.Fails) (O.contents output.old) (O.contents output.new) result }
+    ensures runs { RunEnds N.transition N.Connection.to_give N.Connection.taken N.Connection.calls (λ ports. ports.ports)
+        ⟦<Recording<SocketPorts<'static, N::Connection>, SessionFile<F::File>> as Ports>⟧.transition settings.now
+        (HasFailed O.Fails) resources.entry.0 (O.contents output.old) (O.contents output.new) result }
 {
     let Some(mut sockets) = sockets_on(rt.alloc(), settings, resources, errors) else {
         return Err(RunFault::Memory);
     };
     sockets.set_verbose(reports.is_verbose);
-    serve_opened(rt, settings, reports.folder, &mut sockets, output)
+    ending_of(serve_opened(rt, settings, reports.folder, &mut sockets, output))
 }
 
 /// Logs the beginning of a run (`log_beginning`). If its sessions are recorded, the network also makes sure of a
@@ -148,7 +151,7 @@ fn begin<R: Clock + Net, F: Files, E: Write>(
     log_beginning(reports.is_verbose, chosen, settings, errors);
 }
 
-/// Serves over sockets at the addresses of the settings: binds, and serves on what is bound (`serve_bound`). The file of
+/// Serves over sockets at the addresses of the settings: binds, and serves on what is bound (`run_on`). The file of
 /// the control socket is removed at the end, if there is one.
 fn serve_sockets<
     'r,
@@ -163,8 +166,8 @@ fn serve_sockets<
     output: &mut O,
     errors: &mut E,
 ) -> Result<(), RunFault>
-    ensures { RunEnds ⟦<Connection as Duplex>⟧.to_give ⟦<Connection as Duplex>⟧.taken ⟦<Connection as Duplex>⟧.calls
-        (λ ports. pair_of ports.ports)
+    ensures { SettingsRun {F = Unit {0}} None ⟦<OsNetwork<'r, R> as Network>⟧.transition ⟦<Connection as Duplex>⟧.to_give
+        ⟦<Connection as Duplex>⟧.taken ⟦<Connection as Duplex>⟧.calls (λ ports. ports.ports)
         ⟦<Recording<SocketPorts<'static, Connection>, SessionFile<F::File>> as Ports>⟧.transition settings.now
         (HasFailed O.Fails) (O.contents output.old) (O.contents output.new) result }
 {
@@ -179,7 +182,7 @@ fn serve_sockets<
     } = bound;
     begin(settings, &reports, chosen, &mut network, errors);
     let resources = (network, servers.as_slice(), table, &pool);
-    serve_bound(rt, settings, reports, resources, output, errors)
+    run_on(rt, settings, reports, resources, output, errors)
 }
 
 /// Serves with settings. If there is the path of a folder, a record of each session is kept there. `is_verbose`: whether
@@ -192,8 +195,8 @@ fn serve_reported<'r, R: AllocGlobal + Files + Clock + Net, O: Sink, E: Write>(
     output: &mut O,
     errors: &mut E,
 ) -> Result<(), RunFault>
-    ensures { RunEndsWith records.entry ⟦<Connection as Duplex>⟧.to_give ⟦<Connection as Duplex>⟧.taken
-        ⟦<Connection as Duplex>⟧.calls (λ ports. pair_of ports.ports)
+    ensures { SettingsRun records.entry ⟦<OsNetwork<'r, R> as Network>⟧.transition ⟦<Connection as Duplex>⟧.to_give
+        ⟦<Connection as Duplex>⟧.taken ⟦<Connection as Duplex>⟧.calls (λ ports. ports.ports)
         ⟦<Recording<SocketPorts<'static, Connection>, SessionFile<R::File>> as Ports>⟧.transition settings.now
         (HasFailed O.Fails) (O.contents output.old) (O.contents output.new) result }
 {
@@ -216,20 +219,20 @@ fn serve_reported<'r, R: AllocGlobal + Files + Clock + Net, O: Sink, E: Write>(
     }
 }
 
-/// Serves with the settings of a text: binds, opens the sockets, serves on them (`serve_on`), and finishes closing. If
-/// there is the path of a folder, a record of each session is kept there. `is_verbose`: whether the beginning and the end
-/// of each session are logged.
+/// Serves with the settings of a text: binds, and runs on the network that was bound (`run_on`). If there is the path of a
+/// folder, a record of each session is kept there. `is_verbose`: whether the beginning and the end of each session are
+/// logged.
 ///
-/// `runs`: if it returns `Ok`, sockets to which no bot had come, and of which none closed, evolved by the calls of a
-/// whole run. If it returns a fault of serving, they are the calls of a run that was given up for it. In both cases it
-/// wrote that it listens, and `sessions_come_once` and `bots_are_counted` hold. After a fault before that it wrote
-/// nothing. It returns `Record` only with a folder, if no file can be made in it.
+/// `runs`: the text has a fault, or the run does not begin, for a cause before it serves: then nothing is written. It
+/// returns `Record` only with a folder, if no file can be made in it. Otherwise it ended as `run_on` says, on some value of
+/// the network.
 ///
 /// `untouched`: if the text gives no settings, it returns their fault, and output and standard error are unchanged.
 ///
-/// Not said: which sockets and calls they are, since the run opens its sockets itself. Three causes depend on the
-/// operating system: that a name is unknown if `Name` is returned, which it never is for addresses in digits, that the
-/// address can't be listened on if `Listen` is, and that memory was refused if `Memory` is.
+/// Not said: that the network is the one that `bind` returned, and that this one listens at the address of the settings,
+/// since a call of the operating system has no relation. Three causes depend on the operating system: that a name is
+/// unknown if `Name` is returned, which it never is for addresses in digits, that the address can't be listened on if
+/// `Listen` is, and that memory was refused if `Memory` is.
 pub fn run_text<'r, R: AllocGlobal + Files + Clock + Net, O: Sink, E: Write>(
     rt: &'r R,
     text: &str,
@@ -238,8 +241,8 @@ pub fn run_text<'r, R: AllocGlobal + Files + Clock + Net, O: Sink, E: Write>(
     output: &mut O,
     errors: &mut E,
 ) -> Result<(), RunFault>
-    ensures runs { TextRuns records.entry ⟦<Connection as Duplex>⟧.to_give ⟦<Connection as Duplex>⟧.taken
-        ⟦<Connection as Duplex>⟧.calls (λ ports. pair_of ports.ports)
+    ensures runs { TextRuns records.entry ⟦<OsNetwork<'r, R> as Network>⟧.transition ⟦<Connection as Duplex>⟧.to_give
+        ⟦<Connection as Duplex>⟧.taken ⟦<Connection as Duplex>⟧.calls (λ ports. ports.ports)
         ⟦<Recording<SocketPorts<'static, Connection>, SessionFile<R::File>> as Ports>⟧.transition text.now
         (HasFailed O.Fails) (O.contents output.old) (O.contents output.new) result }
     ensures untouched { IfErr result (λ fault. IsOfText fault →
