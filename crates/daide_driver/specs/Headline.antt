@@ -1,7 +1,7 @@
 -- The main theorem: whatever bytes the two sides send, in whatever pieces and order, a session keeps in each direction
 -- at most one message's announced length, capped, and eight stack entries for each open bracket plus sixteen, with 64
--- further entries in all, takes at most four table steps a token, and sends exactly the grammar's answers. What a
--- session counts is beside it, in Totals.
+-- further entries in all, takes at most four table steps a token and four more a message, and sends exactly the
+-- grammar's answers. What a session counts is beside it, in Totals.
 use Rattle.std.specs.Prelude.{◌≡◌, true, false, List, [], ◌++◌}
 use Rattle.daide_frame.specs.declared.side.Side.{Side}
 use Rattle.daide_frame.specs.PerSide.{both}
@@ -38,7 +38,7 @@ IsReachable limits history g = DeliversOutput (untouched limits) history g
 -- the properties of a session after all its port calls since it was created
 pub record IsBoundedAndExact (limits : Limits) (history : List PortCall) (g : SessionView) : Type 0 where
   -- it keeps in each direction at most one message's announced length, capped, and eight stack entries for each open
-  -- bracket plus sixteen, with 64 further entries in all, takes at most four table steps a token,
+  -- bracket plus sixteen, with 64 further entries in all, takes at most four table steps a token and four a message,
   pub bounds : IsWithinBounds g
   -- and sends exactly the grammar's answers: the bytes that each wire accepted are a front of them, and, unless the
   -- wire failed, the queued bytes are the rest

@@ -155,9 +155,9 @@ fn pull<A: Allocator, P: Ports>(
 /// `exchange` (`headline`): let the session be reachable, by all that its ports returned before: a run from its opening
 /// leads to it (`IsReachable`). Then it is reachable after the call, and bounded and exact (`IsBoundedAndExact`). In
 /// each direction it holds at most one message's announced length, capped, plus eight entries for each open bracket,
-/// plus sixteen. It holds at most 64 further entries in all. It took at most four table steps a token. Each wire took a
-/// prefix of the machine's answers, and unless it failed, what waits is all that is left of them. Once the session is
-/// closed, a wire that did not fail took all of them.
+/// plus sixteen. It holds at most 64 further entries in all. It took at most four table steps a token, and four more a
+/// message. Each wire took a prefix of the machine's answers, and unless it failed, what waits is all that is left of
+/// them. Once the session is closed, a wire that did not fail took all of them.
 ///
 /// `exchange` (`bounds`): the bounds on what is held and on steps hold after each turn of any session, wherever it
 /// began.
