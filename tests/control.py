@@ -491,6 +491,21 @@ def control_is_of_its_user_alone(program):
         same(os.path.exists(match.control), False, "the file is there after the run")
 
 
+def socket_of_another_run_is_kept(program):
+    """The socket's file was removed, and another run began at the path: the end of the first run leaves the new file."""
+    with Match(program, "sessions = 1") as first:
+        os.unlink(first.control)
+        with Match(program, "sessions = 1", control=first.control) as second:
+            bot, server = first.comes()
+            bot.sendall(IM_FM)
+            same(rest(server), IM_FM, "received by the server")
+            bot.close()
+            same(first.ended()[0], 0, "status of the first run")
+            same(json.loads(second.status("json"))["open"], 0, "sessions of the second run")
+            same(second.command("stop", str(second.settings))[2], 0, "status of the order")
+        same(os.path.exists(first.control), False, "the file is there after the second run")
+
+
 def control_refuses_another_user(program):
     """Another user can't connect, which the command says with the system's error."""
     if os.geteuid() != 0:
@@ -640,6 +655,7 @@ TESTS = [
     hostile_clients_delay_no_session,
     silent_client_is_closed,
     control_is_of_its_user_alone,
+    socket_of_another_run_is_kept,
     control_refuses_another_user,
     stale_socket_is_replaced,
     requests_without_a_run_say_why,

@@ -6,7 +6,7 @@ use crate::addresses::AddressFault;
 use mio::net::{UnixListener, UnixStream};
 use std::io::ErrorKind;
 use std::net::Net;
-use std::os::unix::fs::{FileTypeExt, PermissionsExt};
+use std::os::unix::fs::{FileTypeExt, MetadataExt, PermissionsExt};
 use std::rt::Files;
 use std::{fs, io};
 
@@ -37,23 +37,51 @@ fn listener_at<R: Files + Net>(rt: &R, path: &str) -> io::Result<UnixListener> {
     }
 }
 
-/// The file of a control socket. It is removed when this is dropped.
+/// What tells a file from each other one that is ever at its path.
+#[derive(Clone, Copy, PartialEq)]
+struct FileIdentity {
+    device: u64,
+    inode: u64,
+    /// When it was made, since the number of a removed file may be given to the next one: in seconds, and nanoseconds.
+    seconds: i64,
+    nanoseconds: i64,
+}
+
+/// Returns the identity of the file at a path; `None` if there is none.
+fn identity_at<R: Files>(rt: &R, path: &str) -> Option<FileIdentity> {
+    let found = fs::symlink_metadata(rt, path).ok()?;
+    Some(FileIdentity {
+        device: found.dev(),
+        inode: found.ino(),
+        seconds: found.mtime(),
+        nanoseconds: found.mtime_nsec(),
+    })
+}
+
+/// The file of a control socket. It is removed when this is dropped, unless another file is at its path by then.
 pub struct ControlFile<'a, R: Files> {
     rt: &'a R,
     path: &'a str,
+    identity: Option<FileIdentity>,
 }
 
 impl<R: Files> Drop for ControlFile<'_, R> {
     fn drop(self) {
-        let ControlFile { rt, path } = self;
-        let _ = fs::remove_file(rt, path);
+        let ControlFile { rt, path, identity } = self;
+        if identity.is_some() && identity_at(rt, path) == identity {
+            let _ = fs::remove_file(rt, path);
+        }
     }
 }
 
 impl<'a, R: Files> ControlFile<'a, R> {
     /// Takes over the file at the path, at which a listener was bound.
     pub fn at(rt: &'a R, path: &'a str) -> ControlFile<'a, R> {
-        ControlFile { rt, path }
+        ControlFile {
+            rt,
+            path,
+            identity: identity_at(rt, path),
+        }
     }
 }
 
