@@ -19,8 +19,9 @@ use std::rt::{Clock, Files};
 use std::{fs, io};
 use thiserror::Error;
 
-/// The descriptors of the listener and the poller.
-const OWN_DESCRIPTORS: usize = 4;
+/// The descriptors of a run without a session: its three streams, the listener, the poller, which takes two, and one that
+/// each accept takes for a moment.
+const OWN_DESCRIPTORS: usize = 7;
 
 /// The descriptors of a control socket: its listener and its four connections.
 const CONTROL_DESCRIPTORS: usize = 5;
