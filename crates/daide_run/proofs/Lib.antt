@@ -1,5 +1,6 @@
 mod ExchangeLemmas
 mod StreamLemmas
 mod AcceptedLemmas
+mod RecordLemmas
 pub mod RunLemmas
 mod LawFacts

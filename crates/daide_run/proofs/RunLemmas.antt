@@ -14,6 +14,7 @@ use Rattle.daide_settings.specs.declared.settings.Settings.{Settings}
 use Rattle.daide_event_loop.specs.declared.serving.ServeFault.{ServeFault}
 use Rattle.daide_event_loop.specs.Served.{IsWholeRun}
 use Rattle.daide_event_loop.specs.Serving.{GivesUp}
+use Rattle.daide_log.specs.Recording.{Recorded}
 use Rattle.daide_sockets.specs.declared.ports.SocketPorts.{SocketPorts}
 use Rattle.daide_sockets.specs.Finishing.{FinishesAll}
 use Rattle.daide_sockets.specs.Lingering.{ClosingList}
@@ -24,6 +25,7 @@ use Rattle.daide_run.specs.declared.gateway.GatewayFault.TheVariants as gateway_
 use Rattle.daide_run.specs.declared.running.RunFault.{RunFault}
 use Rattle.daide_run.specs.declared.running.RunFault.TheVariants.{Gateway, Memory, Record}
 use Rattle.daide_run.specs.declared.running.RunFault.TheVariants as run_faults
+use Rattle.daide_run.specs.Folder.{CallRecords, RecordHead, TraceRecords, head_for}
 use Rattle.daide_run.specs.Gateway.{Announces}
 use Rattle.daide_run.specs.Running.{RunsBy, Serves, RunEnds, SettingsRun, TextRuns, IsBeforeRun, ending_by}
 
@@ -42,19 +44,34 @@ none_taken table places e = subst (λ (t : Table). AreRowsOf t []) (sym e) (reco
       ∙ sym (ap (λ (n : ℕ). 2 * n + 6 + 256) (length-replicate {A = Option Instant} places None));
 })
 
-module _ {N C P S : Type 0} (transition : N → NetworkCall C → N → Type 0) (to_give taken : S → Option (List ℕ))
-    (calls : S → Option (List StreamCall)) (ports_in : P → SocketPorts S) (port_transition : P → PortCall → P → Type 0) where
-  abbrev Evolves : RunState N S → SystemCall P → RunState N S → Type 0
-  Evolves = RunEvolves transition to_give taken calls ports_in
+module _ {N C S : Type 0} (transition : N → NetworkCall C → N → Type 0) (to_give taken : S → Option (List ℕ))
+    (calls : S → Option (List StreamCall))
+    (port_transition : Recorded (SocketPorts S) → PortCall → Recorded (SocketPorts S) → Type 0) (record_failed : Type 0) where
+  abbrev P : Type 0
+  P = Recorded (SocketPorts S)
 
-  -- A system whose calls evolve the sockets of a run.
-  module _ {T : Type 0} (state_of : T → RunState N S) (step : T → SystemCall P → T → Type 0)
-      (evolves : (old : T) (call : SystemCall P) (new : T) → step old call new → Evolves (state_of old) call (state_of new)) where
+  abbrev Evolves : RunState N S → SystemCall P → RunState N S → Type 0
+  Evolves = RunEvolves transition to_give taken calls (λ ports. ports.ports)
+
+  -- A system whose calls evolve the sockets of a run, and begin records with a head that stays.
+  module _ {T : Type 0} (state_of : T → RunState N S) (head_of : T → RecordHead) (step : T → SystemCall P → T → Type 0)
+      (evolves : (old : T) (call : SystemCall P) (new : T) → step old call new → Evolves (state_of old) call (state_of new)
+      × CallRecords record_failed (head_of old) call × (head_of new ≡ head_of old)) where
     states_go : (trace : List (SystemCall P)) (old new : T) → TransitsBy step old trace new →
         TransitsBy Evolves (state_of old) trace (state_of new)
     states_go [] old new e = ap state_of e
     states_go (call ∷ trace) old new h =
-        (state_of h.0, evolves old call h.0 h.1, states_go trace h.0 new h.2)
+        (state_of h.0, (evolves old call h.0 h.1).0, states_go trace h.0 new h.2)
+
+    records_go : (trace : List (SystemCall P)) (old new : T) → TransitsBy step old trace new →
+        TraceRecords record_failed (head_of old) trace
+    records_go [] old new e = tt
+    records_go (call ∷ trace) old new h =
+        let stepped = evolves old call h.0 h.1 in
+        (
+          stepped.1,
+          subst (λ (head : RecordHead). TraceRecords record_failed head trace) stepped.2 (records_go trace h.0 new h.2),
+        )
 
     -- a run on it ends by the result of its loop, and then waits
     serves_from : (settings : Settings) (failed : Type 0) (before after : Option (List ℕ)) (begun ended : T)
@@ -65,7 +82,8 @@ module _ {N C P S : Type 0} (transition : N → NetworkCall C → N → Type 0) 
         × GivesUp (λ n. Unit {0}) port_transition settings fault trace) →
         FinishesAll transition to_give taken calls 18446744073709551615 (state_of ended).network
         (state_of ended).table.reading (state_of ended).closing last →
-        Serves transition to_give taken calls ports_in port_transition settings failed before after (state_of begun) served
+        Serves transition to_give taken calls port_transition record_failed (head_of begun) settings failed before after
+        (state_of begun) served
     serves_from settings failed before after begun ended last (Ok done) said whole given_up waits = (
       said,
       record {
@@ -74,6 +92,7 @@ module _ {N C P S : Type 0} (transition : N → NetworkCall C → N → Type 0) 
         last = last;
         evolves = states_go whole.0 begun ended whole.1;
         kind = whole.2;
+        recorded = records_go whole.0 begun ended whole.1;
         finishes = waits;
       },
     )
@@ -85,25 +104,29 @@ module _ {N C P S : Type 0} (transition : N → NetworkCall C → N → Type 0) 
         last = last;
         evolves = states_go given_up.0 begun ended given_up.1;
         kind = given_up.2;
+        recorded = records_go given_up.0 begun ended given_up.1;
         finishes = waits;
       },
     )
 
-    -- the same from a state that is that of the system
+    -- the same from a state and a head that are those of the system
     pub serves_on : (settings : Settings) (failed : Type 0) (before after : Option (List ℕ)) (begun ended : T)
-        (opened : RunState N S) (last : ClosingList S) (served : Result (Unit {0}) ServeFault) → state_of begun ≡ opened →
-        Announces failed before after →
+        (opened : RunState N S) (head : RecordHead) (last : ClosingList S) (served : Result (Unit {0}) ServeFault) →
+        state_of begun ≡ opened → head_of begun ≡ head → Announces failed before after →
         OnOk served ((trace : List (SystemCall P)) × TransitsBy step begun trace ended
         × IsWholeRun port_transition settings trace) →
         IfErr served (λ fault. (trace : List (SystemCall P)) × TransitsBy step begun trace ended
         × GivesUp (λ n. Unit {0}) port_transition settings fault trace) →
         FinishesAll transition to_give taken calls 18446744073709551615 (state_of ended).network
         (state_of ended).table.reading (state_of ended).closing last →
-        Serves transition to_give taken calls ports_in port_transition settings failed before after opened served
-    serves_on settings failed before after begun ended opened last served same said whole given_up waits =
+        Serves transition to_give taken calls port_transition record_failed head settings failed before after opened served
+    serves_on settings failed before after begun ended opened head last served same same_head said whole given_up waits =
         subst (λ (s : RunState N S).
-        Serves transition to_give taken calls ports_in port_transition settings failed before after s served)
-        same (serves_from settings failed before after begun ended last served said whole given_up waits)
+        Serves transition to_give taken calls port_transition record_failed head settings failed before after s served)
+        same
+        (subst (λ (h : RecordHead).
+        Serves transition to_give taken calls port_transition record_failed h settings failed before after (state_of begun) served)
+        same_head (serves_from settings failed before after begun ended last served said whole given_up waits))
 
   -- what does not begin without records does not begin with them
   before_with : {F : Type 0} (records : Option F) (settings : Settings) (fault : RunFault) →
@@ -113,21 +136,29 @@ module _ {N C P S : Type 0} (transition : N → NetworkCall C → N → Type 0) 
   before_with records settings Memory h = absurd h
   before_with records settings (run_faults.Settings fault) h = absurd h
 
-  pub runs_with : {F : Type 0} (records : Option F) (settings : Settings) (failed : Type 0) (before after : Option (List ℕ))
-      (result : Result (Unit {0}) RunFault) →
-      SettingsRun {F = Unit {0}} None transition to_give taken calls ports_in port_transition settings failed before after result →
-      SettingsRun records transition to_give taken calls ports_in port_transition settings failed before after result
-  runs_with records settings failed before after result (inl h) =
+  pub runs_with : {F : Type 0} (records : Option F) (head : RecordHead) (settings : Settings) (failed : Type 0)
+      (before after : Option (List ℕ)) (result : Result (Unit {0}) RunFault) → head ≡ head_for settings records →
+      SettingsRun {F = Unit {0}} None transition to_give taken calls port_transition record_failed head settings failed before
+      after result →
+      SettingsRun records transition to_give taken calls port_transition record_failed (head_for settings records) settings
+      failed before after result
+  runs_with records head settings failed before after result same (inl h) =
       inl (h.0, h.1, h.2, before_with records settings h.0 h.3)
-  runs_with records settings failed before after result (inr h) = inr h
+  runs_with records head settings failed before after result same (inr h) =
+      inr (
+        h.0,
+        subst (λ (with : RecordHead).
+            RunEnds transition to_give taken calls port_transition record_failed with settings failed h.0 before after result)
+            same h.1,
+      )
 
   -- a run that ends well has printed `listening`
-  said_by : (settings : Settings) (failed : Type 0) (before after : Option (List ℕ)) (begun : RunState N S)
+  said_by : (head : RecordHead) (settings : Settings) (failed : Type 0) (before after : Option (List ℕ)) (begun : RunState N S)
       (served : Result (Unit {0}) ServeFault) →
-      Serves transition to_give taken calls ports_in port_transition settings failed before after begun served →
+      Serves transition to_give taken calls port_transition record_failed head settings failed before after begun served →
       Announces failed before after
-  said_by settings failed before after begun (Ok done) serves = serves.0
-  said_by settings failed before after begun (Err fault) serves = serves.0
+  said_by head settings failed before after begun (Ok done) serves = serves.0
+  said_by head settings failed before after begun (Err fault) serves = serves.0
 
   -- a run that did not begin has not ended well
   ends_early : (failed : Type 0) (before after : Option (List ℕ)) (fault : RunFault) (result : Result (Unit {0}) RunFault) →
@@ -140,25 +171,26 @@ module _ {N C P S : Type 0} (transition : N → NetworkCall C → N → Type 0) 
   on_ok failed before after (Ok done) said = said
   on_ok failed before after (Err fault) said = tt
 
-  said : (settings : Settings) (failed : Type 0) (network : N) (before after : Option (List ℕ))
+  said : (head : RecordHead) (settings : Settings) (failed : Type 0) (network : N) (before after : Option (List ℕ))
       (result : Result (Unit {0}) RunFault) →
-      RunEnds transition to_give taken calls ports_in port_transition settings failed network before after result →
+      RunEnds transition to_give taken calls port_transition record_failed head settings failed network before after result →
       OnOk result (Announces failed before after)
-  said settings failed network before after result (inl h) = ends_early failed before after Memory result h.0
-  said settings failed network before after result (inr h) =
-      on_ok failed before after result (said_by settings failed before after h.0 h.2 h.4)
+  said head settings failed network before after result (inl h) = ends_early failed before after Memory result h.0
+  said head settings failed network before after result (inr h) =
+      on_ok failed before after result (said_by head settings failed before after h.0 h.2 h.4)
 
-  said_with : {F : Type 0} (records : Option F) (settings : Settings) (failed : Type 0) (before after : Option (List ℕ))
+  said_with : {F : Type 0} (records : Option F) (head : RecordHead) (settings : Settings) (failed : Type 0) (before after : Option (List ℕ))
       (result : Result (Unit {0}) RunFault) →
-      SettingsRun records transition to_give taken calls ports_in port_transition settings failed before after result →
+      SettingsRun records transition to_give taken calls port_transition record_failed head settings failed before after
+      result →
       OnOk result (Announces failed before after)
-  said_with records settings failed before after result (inl h) = ends_early failed before after h.0 result h.1
-  said_with records settings failed before after result (inr h) = said settings failed h.0 before after result h.1
+  said_with records head settings failed before after result (inl h) = ends_early failed before after h.0 result h.1
+  said_with records head settings failed before after result (inr h) = said head settings failed h.0 before after result h.1
 
   pub text_said : {F : Type 0} (records : Option F) (text : List ℕ) (failed : Type 0) (before after : Option (List ℕ))
       (result : Result (Unit {0}) RunFault) →
-      TextRuns records transition to_give taken calls ports_in port_transition text failed before after result →
+      TextRuns records transition to_give taken calls port_transition record_failed text failed before after result →
       OnOk result (Announces failed before after)
   text_said records text failed before after result (inl h) =
       ends_early failed before after (run_faults.Settings h.0) result h.1
-  text_said records text failed before after result (inr h) = said_with records h.0 failed before after result h.2
+  text_said records text failed before after result (inr h) = said_with records (head_for h.0 records) h.0 failed before after result h.2

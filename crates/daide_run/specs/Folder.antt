@@ -1,18 +1,26 @@
 -- The files with the records of the sessions of a run. (own)
-use Rattle.std.specs.Prelude.{◌≡◌, ⊤, ℕ, ◌-◌, ◌^◌, false, List, [], ◌++◌, Option, Some, None, codes}
+use Rattle.std.specs.Prelude.{◌≡◌, ◌⊎◌, ⊤, ℕ, ◌-◌, ◌^◌, false, List, [], ◌∷◌, ◌++◌, Option, Some, None, option_map, codes}
+use Rattle.std.specs.Borrow.{Bor}
 use Rattle.std.specs.Fmt.{decimal, padded_integral, format_spec}
 use Rattle.std.specs.Io.KnownBytes.{append_known}
 use Rattle.std.specs.Net.Text.{socket_text}
 use Rattle.std.specs.declared.net.socket_addr.SocketAddr.{SocketAddr}
 use Rattle.jiff_core.specs.declared.civil.datetime.DateTime.{DateTime}
 use Rattle.daide_words.specs.declared.word.Word.{Word}
+use Rattle.daide_words.specs.Words.{words_of}
+use Rattle.daide_io.specs.System.{SystemCall, Connects}
+use Rattle.daide_io.specs.declared.system.Connect.{Connect}
+use Rattle.daide_io.specs.declared.system.Connect.TheVariants.{Ready}
 use Rattle.daide_protocol.specs.declared.config.Config.{Config}
 use Rattle.daide_log.specs.declared.moment.Moment.{Moment}
 use Rattle.daide_log.specs.declared.record.RecordEnd.TheVariants.{Whole}
 use Rattle.daide_log.specs.RecordItem.{Begun, line_of_item}
 use Rattle.daide_log.specs.RecordText.{head_text, head_count}
-use Rattle.daide_log.specs.Recording.{Written, GetsText}
+use Rattle.daide_log.specs.Recording.{Recorded, Written, GetsText, no_record}
 use Rattle.daide_log.specs.UtcText.{IsUtcOf}
+use Rattle.daide_settings.specs.declared.settings.Settings.{Settings}
+use Rattle.daide_sockets.specs.declared.ports.SocketPorts.{SocketPorts}
+use Rattle.daide_run.specs.declared.folder.Folder.{Folder}
 use Rattle.daide_run.specs.declared.folder.RecordNotice.{RecordNotice}
 use Rattle.daide_run.specs.declared.folder.RecordNotice.TheVariants.{IsThere, Unmade, Unwritten, Full}
 
@@ -66,3 +74,38 @@ IsNoFileOf number (IsThere session) = session ≡ number
 IsNoFileOf number (Unmade session kind) = session ≡ number
 IsNoFileOf number (Unwritten session kind) = ⊥
 IsNoFileOf number (Full session) = ⊥
+
+-- ---- the records of a run
+
+-- what heads each record of a run, the limits and the words of its settings; none if the run has no folder
+abbrev pub RecordHead : Type 0
+RecordHead = Option (Config × List Word)
+
+-- by the settings, and by the folder, if there is one
+abbrev pub head_for : {F : Type 0} → Settings → Option F → RecordHead
+head_for settings folder = option_map (λ f. (settings.config, words_of settings.words)) folder
+
+abbrev pub head_in : {R File Dir : Type 0} → Option (Bor (Folder R File Dir)) → RecordHead
+head_in folder = option_map (λ f. (f.now.config, words_of f.now.words)) folder
+
+-- The ports with which a session begins. With a folder they have the record of the session's own number and of its bot's
+-- address, or none if it could not be started. Without a folder they have none.
+abbrev pub HasOwnRecord : {S : Type 0} → Type 0 → RecordHead → Recorded (SocketPorts S) → Type 0
+HasOwnRecord failed None ports = ports.record_of ≡ no_record
+HasOwnRecord failed (Some head) ports = (ports.record_of ≡ no_record) ⊎ ((now : Option Moment)
+    × Starts failed head.0 head.1 (ports.ports.identity.number, Some ports.ports.identity.address) now ports.record_of
+    ports.last)
+
+-- so do the ports that a connect returns
+abbrev pub BeginsOwnRecord : {S : Type 0} → Type 0 → RecordHead → Connect (Recorded (SocketPorts S)) → Type 0
+BeginsOwnRecord failed head (Ready ports) = HasOwnRecord failed head ports
+BeginsOwnRecord failed head _ = ⊤
+
+abbrev pub CallRecords : {S : Type 0} → Type 0 → RecordHead → SystemCall (Recorded (SocketPorts S)) → Type 0
+CallRecords failed head (Connects place connect) = BeginsOwnRecord failed head connect
+CallRecords failed head _ = ⊤
+
+-- and those of each connect of a trace
+abbrev pub TraceRecords : {S : Type 0} → Type 0 → RecordHead → List (SystemCall (Recorded (SocketPorts S))) → Type 0
+TraceRecords failed head [] = ⊤
+TraceRecords failed head (call ∷ trace) = CallRecords failed head call × TraceRecords failed head trace

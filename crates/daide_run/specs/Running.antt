@@ -15,12 +15,14 @@ use Rattle.daide_settings.specs.Settings.{judged_settings}
 use Rattle.daide_event_loop.specs.declared.serving.ServeFault.{ServeFault}
 use Rattle.daide_event_loop.specs.Served.{IsWholeRun}
 use Rattle.daide_event_loop.specs.Serving.{GivesUp}
+use Rattle.daide_log.specs.Recording.{Recorded}
 use Rattle.daide_sockets.specs.declared.ports.SocketPorts.{SocketPorts}
 use Rattle.daide_sockets.specs.Finishing.{FinishesAll}
 use Rattle.daide_sockets.specs.Lingering.{ClosingList, no_closing}
 use Rattle.daide_sockets.specs.Pairing.{RunSockets, pending_connects}
 use Rattle.daide_sockets.specs.Scheduling.{BeginsListening, HoldsRows, RunEvolves, RunState, sockets_in}
 use Rattle.daide_sockets.specs.Clock.{IsIdleTime}
+use Rattle.daide_run.specs.Folder.{RecordHead, TraceRecords, head_for}
 use Rattle.daide_run.specs.Gateway.{Announces, IsBeforeServing}
 use Rattle.daide_run.specs.declared.gateway.GatewayFault.TheVariants as gateway_faults
 use Rattle.daide_run.specs.declared.running.RunFault.{RunFault}
@@ -48,18 +50,21 @@ abbrev pub ending_by : Result (Unit {0}) ServeFault → Result (Unit {0}) RunFau
 ending_by (Ok done) = Ok done
 ending_by (Err fault) = Err (Gateway (gateway_faults.Serve fault))
 
--- The runs of these settings over networks with this relation; `ports_in` is the content of ports.
-module _ {N C P S : Type 0} (transition : N → NetworkCall C → N → Type 0) (to_give taken : S → Option (List ℕ))
-    (calls : S → Option (List StreamCall)) (ports_in : P → SocketPorts S) (port_transition : P → PortCall → P → Type 0)
-    (settings : Settings) (failed : Type 0) where
-  -- From this state on the sockets of a run evolved by the system calls of a trace with this property. Then the run waited
-  -- for the sockets that closed.
-  pub record RunsBy (Kind : List (SystemCall P) → Type 0) (begun : RunState N S) : Type 0 where
-    pub trace : List (SystemCall P)
+-- The runs of these settings over networks with this relation, whose sessions have records with this head, if it has one.
+-- `record_failed` says that a write of a record failed, and `failed` that one of the output did.
+module _ {N C S : Type 0} (transition : N → NetworkCall C → N → Type 0) (to_give taken : S → Option (List ℕ))
+    (calls : S → Option (List StreamCall))
+    (port_transition : Recorded (SocketPorts S) → PortCall → Recorded (SocketPorts S) → Type 0) (record_failed : Type 0)
+    (head : RecordHead) (settings : Settings) (failed : Type 0) where
+  -- From this state on the sockets of a run evolved by the system calls of a trace with this property, and each session that
+  -- began has its own record. Then the run waited for the sockets that closed.
+  pub record RunsBy (Kind : List (SystemCall (Recorded (SocketPorts S))) → Type 0) (begun : RunState N S) : Type 0 where
+    pub trace : List (SystemCall (Recorded (SocketPorts S)))
     pub ended : RunState N S
     pub last : ClosingList S
-    pub evolves : TransitsBy (RunEvolves transition to_give taken calls ports_in) begun trace ended
+    pub evolves : TransitsBy (RunEvolves transition to_give taken calls (λ ports. ports.ports)) begun trace ended
     pub kind : Kind trace
+    pub recorded : TraceRecords record_failed head trace
     pub finishes : FinishesAll transition to_give taken calls 18446744073709551615 ended.network ended.table.reading
         ended.closing last
 
@@ -86,13 +91,14 @@ IsBeforeRun records settings Memory = ⊥
 IsBeforeRun records settings (run_faults.Settings fault) = ⊥
 
 -- The end of a run of settings: it did not begin, and nothing was written; or it ended on the network that was bound.
-abbrev pub SettingsRun : {F N C P S : Type 0} → Option F → (N → NetworkCall C → N → Type 0) → (S → Option (List ℕ)) →
-    (S → Option (List ℕ)) → (S → Option (List StreamCall)) → (P → SocketPorts S) → (P → PortCall → P → Type 0) →
-    Settings → Type 0 → Option (List ℕ) → Option (List ℕ) → Result (Unit {0}) RunFault → Type 0
-SettingsRun {N = N} records transition to_give taken calls ports_in port_transition settings failed old new result =
+abbrev pub SettingsRun : {F N C S : Type 0} → Option F → (N → NetworkCall C → N → Type 0) → (S → Option (List ℕ)) →
+    (S → Option (List ℕ)) → (S → Option (List StreamCall)) →
+    (Recorded (SocketPorts S) → PortCall → Recorded (SocketPorts S) → Type 0) → Type 0 → RecordHead → Settings → Type 0 →
+    Option (List ℕ) → Option (List ℕ) → Result (Unit {0}) RunFault → Type 0
+SettingsRun {N = N} records transition to_give taken calls port_transition record_failed head settings failed old new result =
     ((fault : RunFault) × (result ≡ Err fault) × (new ≡ old) × IsBeforeRun records settings fault)
-    ⊎ ((network : N) × RunEnds transition to_give taken calls ports_in port_transition settings failed network old new
-    result)
+    ⊎ ((network : N) × RunEnds transition to_give taken calls port_transition record_failed head settings failed network old
+    new result)
 
 -- a fault of a text, which is found before any socket is opened
 abbrev pub IsOfText : RunFault → Type 0
@@ -108,11 +114,14 @@ Reads text settings = judged_settings (parse_document text) ≡ Ok (given_of set
 abbrev pub IsRefused : List ℕ → SettingsError → Type 0
 IsRefused text fault = fault ≢ settings_faults.Memory → judged_settings (parse_document text) ≡ Err fault
 
--- The end of a run of a text: it has a fault, and nothing is written; or it has settings, and they run.
-abbrev pub TextRuns : {F N C P S : Type 0} → Option F → (N → NetworkCall C → N → Type 0) → (S → Option (List ℕ)) →
-    (S → Option (List ℕ)) → (S → Option (List StreamCall)) → (P → SocketPorts S) → (P → PortCall → P → Type 0) →
-    List ℕ → Type 0 → Option (List ℕ) → Option (List ℕ) → Result (Unit {0}) RunFault → Type 0
-TextRuns records transition to_give taken calls ports_in port_transition text failed old new result =
+-- The end of a run of a text: it has a fault, and nothing is written; or it has settings, and they run. If there is a folder
+-- of records, each session has its own.
+abbrev pub TextRuns : {F N C S : Type 0} → Option F → (N → NetworkCall C → N → Type 0) → (S → Option (List ℕ)) →
+    (S → Option (List ℕ)) → (S → Option (List StreamCall)) →
+    (Recorded (SocketPorts S) → PortCall → Recorded (SocketPorts S) → Type 0) → Type 0 → List ℕ → Type 0 →
+    Option (List ℕ) → Option (List ℕ) → Result (Unit {0}) RunFault → Type 0
+TextRuns records transition to_give taken calls port_transition record_failed text failed old new result =
     ((fault : SettingsError) × (result ≡ Err (run_faults.Settings fault)) × IsRefused text fault × (new ≡ old))
     ⊎ ((settings : Settings) × Reads text settings
-    × SettingsRun records transition to_give taken calls ports_in port_transition settings failed old new result)
+    × SettingsRun records transition to_give taken calls port_transition record_failed (head_for settings records) settings
+    failed old new result)

@@ -2,12 +2,14 @@
 //! each session record their calls if it has a record.
 
 ghost use Rattle.std.specs.Prelude.{◌≡◌};
+ghost use Rattle.daide_log.specs.Recording.{HasFailed};
 ghost use Rattle.daide_sockets.specs.Finishing.{FinishesAll};
 ghost use Rattle.daide_sockets.specs.Scheduling.{RunEvolves, run_state};
+ghost use Rattle.daide_run.specs.Folder.{CallRecords, head_in};
 
 use crate::folder::{Folder, SessionFile, end, log_if_ended};
 use daide_io::{Connect, Network, Notice, Orders, ReadyQueue, SessionEnd, SessionStatus, System};
-use daide_log::{Moment, Recording};
+use daide_log::{Moment, Recording, Sink};
 use daide_sockets::ports::SocketPorts;
 use daide_sockets::system::Sockets;
 use std::alloc::Allocator;
@@ -57,7 +59,8 @@ impl<'s, 'w, 'f, N: Network, R: AllocGlobal + Files, C: Clock, E: Write + Drop> 
         folder: Option<&'f Folder<'f, R>>,
         clock: &'f C,
     ) -> RecordedSockets<'s, 'w, 'f, N, R, C, E>
-        ensures { result.sockets ≡ sockets.entry }
+        ensures sockets { result.sockets ≡ sockets.entry }
+        ensures folder { result.folder ≡ folder.entry }
     {
         RecordedSockets {
             sockets,
@@ -91,7 +94,9 @@ impl<'w, N: Network, R: AllocGlobal + Files, C: Clock, E: Write + Drop> System<
         (run_state (old.sockets.now.poller.network, old.sockets.now.poller.table) (old.sockets.now.idle_time, old.sockets.now.stall_time)
         old.sockets.now.acceptor old.sockets.now.arrivals.items old.sockets.now.closings) call
         (run_state (new.sockets.now.poller.network, new.sockets.now.poller.table) (new.sockets.now.idle_time, new.sockets.now.stall_time)
-        new.sockets.now.acceptor new.sockets.now.arrivals.items new.sockets.now.closings) };
+        new.sockets.now.acceptor new.sockets.now.arrivals.items new.sockets.now.closings)
+        × CallRecords (HasFailed ⟦<SessionFile<R::File> as Sink>⟧.Fails) (head_in old.folder) call
+        × (new.folder ≡ old.folder) };
 
     /// The times that are recorded until the next poll are that of this one.
     fn poll<A: Allocator>(&mut self, may_block: bool, ready: &mut ReadyQueue<A>) -> Orders {

@@ -2,6 +2,7 @@
 
 ghost use Rattle.std.specs.Prelude.{◌≡◌, [], None, IfErr};
 ghost use Rattle.daide_log.specs.Recording.{HasFailed};
+ghost use Rattle.daide_run.specs.Folder.{head_for, head_in};
 ghost use Rattle.daide_run.specs.Running.{RunEnds, Serves, SettingsRun, TextRuns, IsOfText, ending_by};
 ghost use Rattle.daide_sockets.specs.Rows.{AreRowsOf};
 ghost use Rattle.daide_sockets.specs.Scheduling.{run_state};
@@ -87,9 +88,9 @@ fn serve_opened<
     sockets: &mut Sockets<'_, N, E>,
     output: &mut O,
 ) -> Result<(), ServeFault>
-    ensures { Serves N.transition N.Connection.to_give N.Connection.taken N.Connection.calls (λ ports. ports.ports)
-        ⟦<Recording<SocketPorts<'static, N::Connection>, SessionFile<F::File>> as Ports>⟧.transition settings.now
-        (HasFailed O.Fails) (O.contents output.old) (O.contents output.new)
+    ensures { Serves N.transition N.Connection.to_give N.Connection.taken N.Connection.calls
+        ⟦<Recording<SocketPorts<'static, N::Connection>, SessionFile<F::File>> as Ports>⟧.transition
+        (HasFailed ⟦<SessionFile<F::File> as Sink>⟧.Fails) (head_in folder.entry) settings.now (HasFailed O.Fails) (O.contents output.old) (O.contents output.new)
         (run_state (sockets.old.poller.network, sockets.old.poller.table) (sockets.old.idle_time, sockets.old.stall_time)
         sockets.old.acceptor sockets.old.arrivals.items sockets.old.closings) result }
 {
@@ -106,9 +107,11 @@ fn serve_opened<
 /// `runs`: it returns `Memory`, and wrote nothing. Or the listeners were followed from this value of the network on, and it
 /// wrote that it listens. Then the sockets evolved by the calls of a whole run of these settings, or, for a fault of
 /// serving, by those of a run that was given up for it. At last it waited for the sockets that close. So
-/// `sessions_come_once` and `bots_are_counted` hold of these calls.
+/// `sessions_come_once` and `bots_are_counted` hold of these calls. With a folder the ports with which a session begins
+/// have the record of the session's number and its bot's address, or none (`HasOwnRecord`); without a folder they have none.
 ///
-/// Not said: the value of the network at the end, since it is dropped.
+/// Not said: the value of the network at the end, since it is dropped; that a record which could not be started is reported;
+/// and that the last page of a record is written when its session is retired. Tests of records show both.
 pub(crate) fn run_on<
     'w,
     N: Network,
@@ -125,9 +128,9 @@ pub(crate) fn run_on<
     errors: E,
 ) -> Result<(), RunFault>
     requires { AreRowsOf resources.2 [] }
-    ensures runs { RunEnds N.transition N.Connection.to_give N.Connection.taken N.Connection.calls (λ ports. ports.ports)
-        ⟦<Recording<SocketPorts<'static, N::Connection>, SessionFile<F::File>> as Ports>⟧.transition settings.now
-        (HasFailed O.Fails) resources.entry.0 (O.contents output.old) (O.contents output.new) result }
+    ensures runs { RunEnds N.transition N.Connection.to_give N.Connection.taken N.Connection.calls
+        ⟦<Recording<SocketPorts<'static, N::Connection>, SessionFile<F::File>> as Ports>⟧.transition
+        (HasFailed ⟦<SessionFile<F::File> as Sink>⟧.Fails) (head_in reports.entry.folder) settings.now (HasFailed O.Fails) resources.entry.0 (O.contents output.old) (O.contents output.new) result }
 {
     let Some(mut sockets) = sockets_on(rt.alloc(), settings, resources, errors) else {
         return Err(RunFault::Memory);
@@ -167,9 +170,9 @@ fn serve_sockets<
     errors: &mut E,
 ) -> Result<(), RunFault>
     ensures { SettingsRun {F = Unit {0}} None ⟦<OsNetwork<'r, R> as Network>⟧.transition ⟦<Connection as Duplex>⟧.to_give
-        ⟦<Connection as Duplex>⟧.taken ⟦<Connection as Duplex>⟧.calls (λ ports. ports.ports)
-        ⟦<Recording<SocketPorts<'static, Connection>, SessionFile<F::File>> as Ports>⟧.transition settings.now
-        (HasFailed O.Fails) (O.contents output.old) (O.contents output.new) result }
+        ⟦<Connection as Duplex>⟧.taken ⟦<Connection as Duplex>⟧.calls
+        ⟦<Recording<SocketPorts<'static, Connection>, SessionFile<F::File>> as Ports>⟧.transition
+        (HasFailed ⟦<SessionFile<F::File> as Sink>⟧.Fails) (head_in reports.entry.folder) settings.now (HasFailed O.Fails) (O.contents output.old) (O.contents output.new) result }
 {
     let bound = bind(rt, settings).map_err(RunFault::Gateway)?;
     let _file = control_file(rt, settings);
@@ -196,9 +199,9 @@ fn serve_reported<'r, R: AllocGlobal + Files + Clock + Net, O: Sink, E: Write>(
     errors: &mut E,
 ) -> Result<(), RunFault>
     ensures { SettingsRun records.entry ⟦<OsNetwork<'r, R> as Network>⟧.transition ⟦<Connection as Duplex>⟧.to_give
-        ⟦<Connection as Duplex>⟧.taken ⟦<Connection as Duplex>⟧.calls (λ ports. ports.ports)
-        ⟦<Recording<SocketPorts<'static, Connection>, SessionFile<R::File>> as Ports>⟧.transition settings.now
-        (HasFailed O.Fails) (O.contents output.old) (O.contents output.new) result }
+        ⟦<Connection as Duplex>⟧.taken ⟦<Connection as Duplex>⟧.calls
+        ⟦<Recording<SocketPorts<'static, Connection>, SessionFile<R::File>> as Ports>⟧.transition
+        (HasFailed ⟦<SessionFile<R::File> as Sink>⟧.Fails) (head_for settings.now records.entry) settings.now (HasFailed O.Fails) (O.contents output.old) (O.contents output.new) result }
 {
     let Some(path) = records else {
         let reports = SessionReports::<R> {
@@ -242,9 +245,9 @@ pub fn run_text<'r, R: AllocGlobal + Files + Clock + Net, O: Sink, E: Write>(
     errors: &mut E,
 ) -> Result<(), RunFault>
     ensures runs { TextRuns records.entry ⟦<OsNetwork<'r, R> as Network>⟧.transition ⟦<Connection as Duplex>⟧.to_give
-        ⟦<Connection as Duplex>⟧.taken ⟦<Connection as Duplex>⟧.calls (λ ports. ports.ports)
-        ⟦<Recording<SocketPorts<'static, Connection>, SessionFile<R::File>> as Ports>⟧.transition text.now
-        (HasFailed O.Fails) (O.contents output.old) (O.contents output.new) result }
+        ⟦<Connection as Duplex>⟧.taken ⟦<Connection as Duplex>⟧.calls
+        ⟦<Recording<SocketPorts<'static, Connection>, SessionFile<R::File>> as Ports>⟧.transition
+        (HasFailed ⟦<SessionFile<R::File> as Sink>⟧.Fails) text.now (HasFailed O.Fails) (O.contents output.old) (O.contents output.new) result }
     ensures untouched { IfErr result (λ fault. IsOfText fault →
         (output.new ≡ output.old) × (errors.new ≡ errors.old)) }
 {
