@@ -1,3 +1,4 @@
 mod EndingLemmas
 mod Reading
 mod JudgingLemmas
+mod ControllingLemmas

@@ -1,5 +1,5 @@
 -- What the commands `status` and `stop` send to a run. (own)
-use Rattle.std.specs.Prelude.{◌≢◌, ◌≤◌, ℕ, ◌++◌, Bool, true, false, List, [], ◌∷◌, length, Option}
+use Rattle.std.specs.Prelude.{◌≡◌, ◌≢◌, ◌≤◌, ℕ, ◌++◌, Bool, true, false, List, [], ◌∷◌, length, Option, IfSome}
 use Rattle.std.specs.Io.KnownBytes.{Appends}
 use Rattle.daide_status.specs.declared.request.ControlRequest.{ControlRequest}
 use Rattle.daide_status.specs.declared.request.ControlRequest.TheVariants.{Stop, StopNow}
@@ -24,3 +24,17 @@ pub record IsAnswerPrinted (old new : Option (List ℕ)) : Type 0 where
   pub some : answer ≢ []
   pub few : length answer ≤ longest_answer
   pub printed : Appends old new answer
+
+-- The streams by which a request is made: what was written to one, and what is still to be read from it.
+module _ {S : Type 0} (contents remaining : S → Option (List ℕ)) (request : ControlRequest) (stream : S) where
+  -- The request was sent over the stream, and the output got all that came then.
+  pub record AnswersOver (old new : Option (List ℕ)) : Type 0 where
+    pub sent : S
+    pub asked : Appends (contents stream) (contents sent) (request_line request)
+    pub printed : IsAnswerPrinted old new
+    pub whole : IfSome (remaining sent) (λ all. printed.answer ≡ all)
+
+  -- The request was sent over the stream, and then came nothing but its end.
+  abbrev pub EndsAfter : Type 0
+  EndsAfter = (sent : S) × Appends (contents stream) (contents sent) (request_line request)
+      × IfSome (remaining sent) (λ rest. rest ≡ [])

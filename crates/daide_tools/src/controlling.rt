@@ -6,7 +6,7 @@
 ghost use Rattle.std.specs.Prelude.{◌≡◌, ◌≢◌, ◌≤◌, ◌++◌, ◌∷◌, [], length, IfOk, OnOk, IfSome};
 ghost use Rattle.std.specs.Io.KnownBytes.{Appends};
 ghost use Rattle.daide_status.specs.Requests.{request_text};
-ghost use Rattle.daide_tools.specs.Controlling.{IsAnswerPrinted, request_line, stop_request, longest_answer};
+ghost use Rattle.daide_tools.specs.Controlling.{AnswersOver, EndsAfter, IsAnswerPrinted, request_line, stop_request, longest_answer};
 
 use crate::faults::{CLEAN, FAULT, print_fault};
 use crate::settings_file::{SettingsFileFault, settings_at};
@@ -138,7 +138,21 @@ fn connect<R: Net>(
     }
 }
 
-/// Requests the status of the run at a path, and prints it.
+/// Requests a status over a stream, and prints the answer.
+fn status_over<S: Read + Write, O: Write>(
+    alloc: Global,
+    request: ControlRequest,
+    stream: &mut S,
+    output: &mut O,
+) -> Result<(), RequestFault>
+    ensures { OnOk result (AnswersOver S.contents S.remaining request stream.old (O.contents output.old) (O.contents output.new)) }
+{
+    send(request, stream)?;
+    let answer = answer_of(alloc, stream)?;
+    print_answer(answer.as_slice(), output)
+}
+
+/// Requests the status of the run at a path, and prints it (`status_over`).
 fn print_status<R: AllocGlobal + Net, O: Write>(
     rt: &R,
     path: &ControlPath,
@@ -149,9 +163,7 @@ fn print_status<R: AllocGlobal + Net, O: Write>(
 {
     let timeout = Duration::from_secs(ANSWER_SECONDS);
     let mut stream = connect(rt, path, Some(timeout))?;
-    send(request, &mut stream)?;
-    let answer = answer_of(rt.alloc(), &mut stream)?;
-    print_answer(answer.as_slice(), output)
+    status_over(rt.alloc(), request, &mut stream, output)
 }
 
 /// Waits for the end of a stream on which nothing comes before.
@@ -167,14 +179,21 @@ fn wait_for_end<S: Read>(stream: &mut S) -> Result<(), RequestFault>
     }
 }
 
-/// Requests a stop of the run at a path, and waits until the run is over.
+/// Requests a stop over a stream, and waits for the end of the stream, which comes when the run is over.
+fn stop_over<S: Read + Write>(is_now: bool, stream: &mut S) -> Result<(), RequestFault>
+    ensures { OnOk result (EndsAfter S.contents S.remaining (stop_request is_now) stream.old) }
+{
+    send(stop_request(is_now), stream)?;
+    wait_for_end(stream)
+}
+
+/// Requests a stop of the run at a path, and waits until the run is over (`stop_over`).
 fn stop_run<R: Net>(rt: &R, path: &ControlPath, order: StopOrder<'_>) -> Result<(), RequestFault> {
     let timeout = order
         .timeout
         .map(|seconds| Duration::from_secs(seconds as u64));
     let mut stream = connect(rt, path, timeout)?;
-    send(stop_request(order.is_now), &mut stream)?;
-    wait_for_end(&mut stream)
+    stop_over(order.is_now, &mut stream)
 }
 
 /// Returns the request of an order to stop.
