@@ -466,6 +466,7 @@ module _ (config : Config) (words : List Word) (old : SessionView) (side : Side)
           (subst (λ (l : Level). HasVerdict (IsMessageOver (grammar_words words) (side2_of side) l)
           config.max_depth (tokens_of (drop 4 bytes)) (verdict_by deed)) level verdict) in
           record {
+            accepted = under.accepted;
             ruled = record {
               low = (depth_within config under.accepted).0;
               high = (depth_within config under.accepted).1;

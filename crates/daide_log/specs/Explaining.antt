@@ -1,5 +1,5 @@
 -- The frame that a session still holds when its move is explained. (own)
-use Rattle.std.specs.Prelude.{◌≡◌, ⊤, ℕ, ◌≤◌, ◌%◌, List, [], length, drop}
+use Rattle.std.specs.Prelude.{◌≡◌, ⊤, ℕ, ◌≤◌, ◌%◌, List, [], Ok, length, drop}
 use Rattle.std.specs.Bool.{MatchBool}
 use Rattle.daide_token.specs.Token.{tokens_of}
 use Rattle.daide_frame.specs.declared.side.Side.{Side}
@@ -8,6 +8,7 @@ use Rattle.daide_words.specs.declared.word.Word.{Word}
 use Rattle.daide_words.specs.Word.{grammar_words}
 use Rattle.daide_reader.specs.Verdict.{HasVerdict, IsPlaceIn}
 use Rattle.daide_protocol.specs.Bounds.{longest_body, least_depth, greatest_depth}
+use Rattle.daide_protocol.specs.Config.{config_fault}
 use Rattle.daide_protocol.specs.declared.config.Config.{Config}
 use Rattle.daide_protocol.specs.declared.note.Deed.{Deed}
 use Rattle.daide_protocol.specs.declared.note.Note.{Note}
@@ -28,8 +29,9 @@ pub record IsRuled (max_depth : ℕ) (body : List ℕ) : Type 0 where
   pub capped : length body ≤ longest_body
   pub even : length body % 2 ≡ 0
 
--- the held message had this fate because of the grammar's verdict on it
+-- the held message had this fate because of the grammar's verdict on it, under limits that are valid
 pub record IsRightFate (words : List Word) (config : Config) (side : Side) (deed : Deed) (new : SessionView) : Type 0 where
+  pub accepted : config_fault config ≡ Ok tt
   pub ruled : IsRuled config.max_depth (drop 4 (holding new side).frame_bytes)
   pub within : IsPlaceIn (drop 4 (holding new side).frame_bytes) (verdict_by deed)
   pub verdict : HasVerdict (IsMessageOver (grammar_words words) (side2_of side) (coming new.state side).noted)

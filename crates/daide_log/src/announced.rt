@@ -1,11 +1,9 @@
 //! The levels of press that the servers of a log's sessions announced, whatever the highest level of the log is.
 
-ghost use Rattle.std.specs.Prelude.{◌≡◌, ◌≤◌, List, length, slice_set};
+ghost use Rattle.std.specs.Prelude.{◌≡◌, ◌≤◌, length, slice_set};
 ghost use Rattle.daide_token.specs.Token.{tokens_of};
 ghost use Rattle.daide_grammar.specs.declared.level.Level.TheVariants.{L60};
-ghost use Rattle.daide_words.specs.declared.word.Word.{Word};
 ghost use Rattle.daide_reader.specs.Bounds.{longest_message};
-ghost use Rattle.daide_protocol.specs.Config.{limits_with};
 ghost use Rattle.daide_protocol.specs.HloLevel.{level_reported as level_of_message};
 ghost use Rattle.daide_log.specs.Explained.{capped_from, level_announced, place_of_session};
 ghost use Rattle.daide_log.specs.Explaining.{announced_by_held};
@@ -17,7 +15,7 @@ use daide_grammar::Level;
 use daide_protocol::Note;
 use daide_protocol::hlo::{HloScan, level_reported};
 use daide_reader::Verdict;
-use daide_session::{Config, Session};
+use daide_session::Session;
 use std::alloc::Allocator;
 
 /// Returns the place of a session in a list, from 0.
@@ -50,13 +48,6 @@ pub(crate) fn record_level(levels: &mut [Level], source: ReportKey, announced: L
     if place < levels.len() {
         levels[place] = announced;
     }
-}
-
-/// Returns the highest level that an HLO may set.
-pub(crate) fn top_level(config: Config) -> Level
-    ensures { (words : List Word) → result ≡ (limits_with config words).top_level }
-{
-    Level::of(config.top_level).unwrap_or(Level::L0)
 }
 
 /// Returns the level that the server announced, if a message was judged at the highest level, and that is below it.

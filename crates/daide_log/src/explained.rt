@@ -33,7 +33,7 @@ ghost use Rattle.daide_log.specs.Progress.{IsAnswered, states_of};
 ghost use Rattle.daide_log.specs.Reporting.{IsFailedWrite, IsIdle};
 ghost use Rattle.daide_log.specs.Proofs.Lawful.{explained_lawful};
 
-use crate::announced::{announced_after, capped_from, level_announced, record_level, top_level};
+use crate::announced::{announced_after, capped_from, level_announced, record_level};
 use crate::check::report_stream;
 use crate::heading::{Preamble, Version};
 use crate::line_reason::LineReason;
@@ -53,7 +53,7 @@ use daide_log_lines::reader::LogReader;
 use daide_protocol::transitions::side2_of;
 use daide_protocol::{Deed, MAX_SESSIONS, Note, Summary};
 use daide_reader::Verdict;
-use daide_session::{Ending, Session};
+use daide_session::{Ending, Session, SessionLimits};
 use daide_token::digits_of_byte;
 use daide_words::Words;
 use std::alloc::{AllocError, Allocator};
@@ -297,11 +297,11 @@ fn write_held<A: Allocator, B: Growth + Copy>(
         level: session.noted(side),
         max_depth: head.limits.config.max_depth,
     };
-    let top = top_level(head.limits.config);
+    let limits = SessionLimits::of(head.limits.config);
     write_message(
         *text.allocator(),
         &rules,
-        capped_from(top, announced, rules.level),
+        capped_from(limits.top_level(), announced, rules.level),
         verdict_by(deed),
         session.body(side),
         text,

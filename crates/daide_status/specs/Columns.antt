@@ -46,12 +46,15 @@ run_line run =
     totals run ++ text_if run.has_waiting (codes "; bots may wait for a place") ++ text_if run.is_stopping (codes "; stopping")
     ++ codes "\n"
 
--- the line of the run, and the names of the columns in two lines
-abbrev pub table_head : RunStatus → List ℕ
-table_head run =
-    run_line run
-    ++ codes "                      from the bot   from the server\n"
+-- the names of the columns, in two lines
+abbrev pub column_names : List ℕ
+column_names =
+    codes "                      from the bot   from the server\n"
     ++ codes "session  phase   relayed  PRN  HUH relayed  PRN  HUH  to bot to server    bot sent server sent    bot took server took  bot idle server idle   port bot and its name\n"
+
+-- the line of the run, and the names of the columns
+abbrev pub table_head : RunStatus → List ℕ
+table_head run = run_line run ++ column_names
 
 -- the counts of a side, each in a column as wide as its name, of four bytes at least
 abbrev pub side_cells : SideCounts → List ℕ

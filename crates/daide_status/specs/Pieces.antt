@@ -1,12 +1,18 @@
 -- The pieces of which the texts of a status are made. (own)
-use Rattle.std.specs.Prelude.{ℕ, ◌-◌, ◌++◌, ◌==◌, ◌||◌, Bool, true, false, if◌then◌else◌, List, [], ◌∷◌}
-use Rattle.std.specs.Prelude.{Option, Some, None, codes, length}
+use Rattle.std.specs.Prelude.{◌≡◌, ℕ, ◌-◌, ◌++◌, ◌==◌, ◌||◌, Bool, true, false, if◌then◌else◌, List, [], ◌∷◌}
+use Rattle.std.specs.Prelude.{Option, Some, None, Result, MatchResult, Vec, codes, length}
 use Rattle.std.specs.List.{flat_map, repeat}
 use Rattle.std.specs.Fmt.{decimal}
+use Rattle.daide_causes.specs.Causes.{WasRefused}
 use Rattle.daide_protocol.specs.declared.phase.Phase.{Phase}
 use Rattle.daide_protocol.specs.declared.phase.Phase.TheVariants.{WaitIm, WaitRm, Open, Over}
 use Rattle.daide_protocol.specs.declared.bot_name.BotName.{BotName}
 use Rattle.daide_protocol.specs.BotName.{name_text}
+
+-- a call appended a text; or it returned an error, and then an allocation was refused
+abbrev pub AppendsOrRefused : {A E : Type 0} → (ℕ → Type 0) → Vec ℕ A → Vec ℕ A → Result (Unit {0}) E → List ℕ → Type 0
+AppendsOrRefused Refuses old new result text =
+    MatchResult result (λ _. new.items ≡ old.items ++ text) (λ _. WasRefused Refuses)
 
 -- a text after as many spaces as it is shorter than a width
 abbrev pub right_aligned : ℕ → List ℕ → List ℕ

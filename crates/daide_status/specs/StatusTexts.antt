@@ -30,7 +30,7 @@ pub record StatusView : Type 0 where
   pub idle : List ℕ
   pub levels : List ℕ
 
-abbrev pub status_view : StatusText → StatusView
+abbrev pub status_view : {A : Type 0} → StatusText A → StatusView
 status_view t = record {
   format = t.format;
   has_rows = t.has_rows;

@@ -1,20 +1,20 @@
 //! The status as one JSON document: the members of the run, and an array with an object for each session.
 
-ghost use Rattle.std.specs.Prelude.{◌≡◌, ◌++◌, OnOk};
+ghost use Rattle.daide_status.specs.Pieces.{AppendsOrRefused};
 ghost use Rattle.daide_status.specs.Json.{json_counts, json_faults, json_head, json_identity, json_bytes, json_idle, json_waiting, json_name, json_port, json_row, json_run_counts, json_run_state, json_sides, json_session, name_or_null};
 
 use crate::pieces::{phase_name, port_number, put_or_null, put_quoted_name};
 use crate::snapshot::{RunStatus, SessionRow};
+use daide_causes::Growth;
 use daide_protocol::{Account, BotName, Counter};
-use std::io;
-use std::io::Write;
+use std::alloc::AllocError;
 
 /// What comes after the last session.
 pub(crate) const END: &str = "\n]}\n";
 
 /// Appends the numbers of the run.
-fn put_run_counts(run: &RunStatus, out: &mut Vec<u8>) -> io::Result<()>
-    ensures { OnOk result (out.new.items ≡ out.old.items ++ json_run_counts run.now) }
+fn put_run_counts<A: Growth>(run: &RunStatus, out: &mut Vec<u8, A>) -> Result<(), AllocError>
+    ensures { AppendsOrRefused A.Refuses out.old out.new result (json_run_counts run.now) }
 {
     let RunStatus {
         open,
@@ -23,15 +23,17 @@ fn put_run_counts(run: &RunStatus, out: &mut Vec<u8>) -> io::Result<()>
         unreached,
         ..
     } = *run;
-    write!(
+    A::append_text(
         out,
-        "{{\"open\":{open},\"connecting\":{connecting},\"served\":{served},\"unreached\":{unreached}"
+        format_args!(
+            "{{\"open\":{open},\"connecting\":{connecting},\"served\":{served},\"unreached\":{unreached}"
+        ),
     )
 }
 
 /// Appends the flags of the run and its seconds, and the beginning of the array.
-fn put_run_state(run: &RunStatus, out: &mut Vec<u8>) -> io::Result<()>
-    ensures { OnOk result (out.new.items ≡ out.old.items ++ json_run_state run.now) }
+fn put_run_state<A: Growth>(run: &RunStatus, out: &mut Vec<u8, A>) -> Result<(), AllocError>
+    ensures { AppendsOrRefused A.Refuses out.old out.new result (json_run_state run.now) }
 {
     let RunStatus {
         has_waiting,
@@ -39,64 +41,71 @@ fn put_run_state(run: &RunStatus, out: &mut Vec<u8>) -> io::Result<()>
         seconds,
         ..
     } = *run;
-    write!(
+    A::append_text(
         out,
-        ",\"bots_may_wait\":{has_waiting},\"stopping\":{is_stopping},\"seconds\":{seconds},\"sessions\":["
+        format_args!(
+            ",\"bots_may_wait\":{has_waiting},\"stopping\":{is_stopping},\"seconds\":{seconds},\"sessions\":["
+        ),
     )
 }
 
 /// Appends the members of the run, and the beginning of the array.
-pub(crate) fn put_json_head(run: &RunStatus, out: &mut Vec<u8>) -> io::Result<()>
-    ensures { OnOk result (out.new.items ≡ out.old.items ++ json_head run.now) }
+pub(crate) fn put_json_head<A: Growth>(
+    run: &RunStatus,
+    out: &mut Vec<u8, A>,
+) -> Result<(), AllocError>
+    ensures { AppendsOrRefused A.Refuses out.old out.new result (json_head run.now) }
 {
     put_run_counts(run, out)?;
     put_run_state(run, out)
 }
 
 /// Appends the number of a session, its bot's address, its phase and its level.
-fn put_session(row: &SessionRow, out: &mut Vec<u8>) -> io::Result<()>
-    ensures { OnOk result (out.new.items ≡ out.old.items ++ json_session row.now) }
+fn put_session<A: Growth>(row: &SessionRow, out: &mut Vec<u8, A>) -> Result<(), AllocError>
+    ensures { AppendsOrRefused A.Refuses out.old out.new result (json_session row.now) }
 {
     let number = row.number;
     let bot = row.bot;
     let phase = phase_name(row.phase);
     let level = row.level.number();
-    write!(
+    A::append_text(
         out,
-        "{{\"session\":{number},\"bot\":\"{bot}\",\"phase\":\"{phase}\",\"level\":{level}"
+        format_args!(
+            "{{\"session\":{number},\"bot\":\"{bot}\",\"phase\":\"{phase}\",\"level\":{level}"
+        ),
     )
 }
 
 /// Appends the port of a session toward the server as a member.
-fn put_port(row: &SessionRow, out: &mut Vec<u8>) -> io::Result<()>
-    ensures { OnOk result (out.new.items ≡ out.old.items ++ json_port row.now) }
+fn put_port<A: Growth>(row: &SessionRow, out: &mut Vec<u8, A>) -> Result<(), AllocError>
+    ensures { AppendsOrRefused A.Refuses out.old out.new result (json_port row.now) }
 {
-    out.write_all(b",\"port_to_server\":")?;
+    A::append(out, b",\"port_to_server\":")?;
     put_or_null(port_number(row.port_to_server), out)
 }
 
 /// Appends what the bot calls itself, or `null`.
-fn put_name_or_null(name: &BotName, out: &mut Vec<u8>) -> io::Result<()>
-    ensures { OnOk result (out.new.items ≡ out.old.items ++ name_or_null name.now) }
+fn put_name_or_null<A: Growth>(name: &BotName, out: &mut Vec<u8, A>) -> Result<(), AllocError>
+    ensures { AppendsOrRefused A.Refuses out.old out.new result (name_or_null name.now) }
 {
     match name {
-        BotName::Unknown => out.write_all(b"null"),
+        BotName::Unknown => A::append(out, b"null"),
         BotName::Nme(_) => put_quoted_name(name, out),
         BotName::Iam(_) => put_quoted_name(name, out),
     }
 }
 
 /// Appends what the bot calls itself as a member.
-fn put_name_member(name: &BotName, out: &mut Vec<u8>) -> io::Result<()>
-    ensures { OnOk result (out.new.items ≡ out.old.items ++ json_name name.now) }
+fn put_name_member<A: Growth>(name: &BotName, out: &mut Vec<u8, A>) -> Result<(), AllocError>
+    ensures { AppendsOrRefused A.Refuses out.old out.new result (json_name name.now) }
 {
-    out.write_all(b",\"name\":")?;
+    A::append(out, b",\"name\":")?;
     put_name_or_null(name, out)
 }
 
 /// Appends all that comes before the counts of a session.
-fn put_identity(row: &SessionRow, out: &mut Vec<u8>) -> io::Result<()>
-    ensures { OnOk result (out.new.items ≡ out.old.items ++ json_identity row.now) }
+fn put_identity<A: Growth>(row: &SessionRow, out: &mut Vec<u8, A>) -> Result<(), AllocError>
+    ensures { AppendsOrRefused A.Refuses out.old out.new result (json_identity row.now) }
 {
     put_session(row, out)?;
     put_port(row, out)?;
@@ -105,22 +114,30 @@ fn put_identity(row: &SessionRow, out: &mut Vec<u8>) -> io::Result<()>
 
 /// Appends two numbers, of the bot and of the server, as a member.
 #[tactic(auto, unfolding(crate::specs::Json::json_sides))]
-fn put_sides(name: &str, bot: u128, server: u128, out: &mut Vec<u8>) -> io::Result<()>
-    ensures { OnOk result (out.new.items ≡ out.old.items ++ json_sides name.now bot server) }
+fn put_sides<A: Growth>(
+    name: &str,
+    bot: u128,
+    server: u128,
+    out: &mut Vec<u8, A>,
+) -> Result<(), AllocError>
+    ensures { AppendsOrRefused A.Refuses out.old out.new result (json_sides name.now bot server) }
 {
-    write!(out, ",\"{name}\":{{\"bot\":{bot},\"server\":{server}}}")
+    A::append_text(
+        out,
+        format_args!(",\"{name}\":{{\"bot\":{bot},\"server\":{server}}}"),
+    )
 }
 
 /// Appends the number of faults as a member.
-fn put_faults(faults: u64, out: &mut Vec<u8>) -> io::Result<()>
-    ensures { OnOk result (out.new.items ≡ out.old.items ++ json_faults faults) }
+fn put_faults<A: Growth>(faults: u64, out: &mut Vec<u8, A>) -> Result<(), AllocError>
+    ensures { AppendsOrRefused A.Refuses out.old out.new result (json_faults faults) }
 {
-    write!(out, ",\"faults\":{faults}")
+    A::append_text(out, format_args!(",\"faults\":{faults}"))
 }
 
 /// Appends the counts of a session, by side.
-fn put_counts(account: &Account, out: &mut Vec<u8>) -> io::Result<()>
-    ensures { OnOk result (out.new.items ≡ out.old.items ++ json_counts account.now) }
+fn put_counts<A: Growth>(account: &Account, out: &mut Vec<u8, A>) -> Result<(), AllocError>
+    ensures { AppendsOrRefused A.Refuses out.old out.new result (json_counts account.now) }
 {
     for counter in Counter::ALL {
         let (bot, server) = (account.bot.of(counter), account.server.of(counter));
@@ -130,19 +147,19 @@ fn put_counts(account: &Account, out: &mut Vec<u8>) -> io::Result<()>
 }
 
 /// Appends the seconds since each side's last byte.
-fn put_idle_sides(row: &SessionRow, out: &mut Vec<u8>) -> io::Result<()>
-    ensures { OnOk result (out.new.items ≡ out.old.items ++ json_idle row.now) }
+fn put_idle_sides<A: Growth>(row: &SessionRow, out: &mut Vec<u8, A>) -> Result<(), AllocError>
+    ensures { AppendsOrRefused A.Refuses out.old out.new result (json_idle row.now) }
 {
-    out.write_all(b",\"idle_seconds\":{\"bot\":")?;
+    A::append(out, b",\"idle_seconds\":{\"bot\":")?;
     put_or_null(row.bot_idle, out)?;
-    out.write_all(b",\"server\":")?;
+    A::append(out, b",\"server\":")?;
     put_or_null(row.server_idle, out)?;
-    out.write_all(b"}}")
+    A::append(out, b"}}")
 }
 
 /// Appends the bytes that wait for each side, in the session and in the side's socket, as members.
-fn put_waiting_sides(row: &SessionRow, out: &mut Vec<u8>) -> io::Result<()>
-    ensures { OnOk result (out.new.items ≡ out.old.items ++ json_waiting row.now) }
+fn put_waiting_sides<A: Growth>(row: &SessionRow, out: &mut Vec<u8, A>) -> Result<(), AllocError>
+    ensures { AppendsOrRefused A.Refuses out.old out.new result (json_waiting row.now) }
 {
     put_sides(
         "queued",
@@ -159,8 +176,8 @@ fn put_waiting_sides(row: &SessionRow, out: &mut Vec<u8>) -> io::Result<()>
 }
 
 /// Appends the bytes received from each side, and those sent to each, as members.
-fn put_byte_sides(row: &SessionRow, out: &mut Vec<u8>) -> io::Result<()>
-    ensures { OnOk result (out.new.items ≡ out.old.items ++ json_bytes row.now) }
+fn put_byte_sides<A: Growth>(row: &SessionRow, out: &mut Vec<u8, A>) -> Result<(), AllocError>
+    ensures { AppendsOrRefused A.Refuses out.old out.new result (json_bytes row.now) }
 {
     put_sides(
         "received",
@@ -177,8 +194,11 @@ fn put_byte_sides(row: &SessionRow, out: &mut Vec<u8>) -> io::Result<()>
 }
 
 /// Appends the object of a session.
-pub(crate) fn put_json_row(row: &SessionRow, out: &mut Vec<u8>) -> io::Result<()>
-    ensures { OnOk result (out.new.items ≡ out.old.items ++ json_row row.now) }
+pub(crate) fn put_json_row<A: Growth>(
+    row: &SessionRow,
+    out: &mut Vec<u8, A>,
+) -> Result<(), AllocError>
+    ensures { AppendsOrRefused A.Refuses out.old out.new result (json_row row.now) }
 {
     put_identity(row, out)?;
     put_counts(&row.account, out)?;

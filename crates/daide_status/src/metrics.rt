@@ -1,36 +1,35 @@
 //! The status in the text format of Prometheus: each metric with its help and its type, and then all its samples.
 
-ghost use Rattle.std.specs.Prelude.{◌≡◌, ◌+◌, ◌++◌, [], OnOk, codes};
+ghost use Rattle.std.specs.Prelude.{◌≡◌, ◌+◌, ◌++◌, [], codes};
 ghost use Rattle.daide_status.specs.Metrics.{count_labels, count_sample, side_samples, flag_number, frame_samples, idle_samples, idle_sample, level_sample};
 ghost use Rattle.daide_status.specs.Metrics.{metric_head, metrics_head, phase_label, run_metric, session_sample, waiting_samples};
-ghost use Rattle.daide_status.specs.Pieces.{quoted_name};
+ghost use Rattle.daide_status.specs.Pieces.{AppendsOrRefused, quoted_name};
 ghost use Rattle.daide_status.specs.Metrics.{byte_samples, session_counters, sample_front, name_label, run_sample, sample_end, session_metric, session_metrics, waiting_metrics};
 
 use crate::pieces::{put_quoted_name, sum};
 use crate::snapshot::{RunStatus, SessionRow};
+use daide_causes::Growth;
 use daide_protocol::{BotName, Counter, Phase, SideCounts};
-use std::alloc::Global;
-use std::io;
-use std::io::Write;
+use std::alloc::{AllocError, Allocator};
 
 /// The samples of all sessions, by metric, since a metric has all its samples together.
 #[derive(Drop)]
-pub(crate) struct Samples {
+pub(crate) struct Samples<A: Allocator> {
     /// The frames of each session, by what was done with them.
-    pub frames: Vec<u8>,
+    pub frames: Vec<u8, A>,
     /// The bytes of each session, by side and by direction.
-    pub bytes: Vec<u8>,
+    pub bytes: Vec<u8, A>,
     /// The bytes that wait for each side.
-    pub waiting: Vec<u8>,
+    pub waiting: Vec<u8, A>,
     /// The seconds since each side's last byte.
-    pub idle: Vec<u8>,
+    pub idle: Vec<u8, A>,
     /// The level of each session.
-    pub levels: Vec<u8>,
+    pub levels: Vec<u8, A>,
 }
 
-impl Samples {
+impl<A: Allocator + Copy> Samples<A> {
     /// Returns no samples.
-    pub(crate) fn new(alloc: Global) -> Samples
+    pub(crate) fn new(alloc: A) -> Samples<A>
         ensures frames { result.frames.items ≡ [] }
         ensures bytes { result.bytes.items ≡ [] }
         ensures waiting { result.waiting.items ≡ [] }
@@ -48,39 +47,44 @@ impl Samples {
 }
 
 /// Appends the help and the type of a metric.
-fn put_metric(name: &str, kind: &str, help: &str, out: &mut Vec<u8>) -> io::Result<()>
-    ensures { OnOk result (out.new.items ≡ out.old.items ++ metric_head name.now kind.now help.now) }
+fn put_metric<A: Growth>(
+    name: &str,
+    kind: &str,
+    help: &str,
+    out: &mut Vec<u8, A>,
+) -> Result<(), AllocError>
+    ensures { AppendsOrRefused A.Refuses out.old out.new result (metric_head name.now kind.now help.now) }
 {
-    write!(
+    A::append_text(
         out,
-        "# HELP daide_gate_{name} {help}\n# TYPE daide_gate_{name} {kind}\n"
+        format_args!("# HELP daide_gate_{name} {help}\n# TYPE daide_gate_{name} {kind}\n"),
     )
 }
 
 /// Appends the sample of a metric of the run.
-fn put_value(name: &str, value: u64, out: &mut Vec<u8>) -> io::Result<()>
-    ensures { OnOk result (out.new.items ≡ out.old.items ++ run_sample name.now value) }
+fn put_value<A: Growth>(name: &str, value: u64, out: &mut Vec<u8, A>) -> Result<(), AllocError>
+    ensures { AppendsOrRefused A.Refuses out.old out.new result (run_sample name.now value) }
 {
-    writeln!(out, "daide_gate_{name} {value}")
+    A::append_text(out, format_args_nl!("daide_gate_{name} {value}"))
 }
 
 /// Appends a metric of the run, with its one sample.
-fn put_run_metric(
+fn put_run_metric<A: Growth>(
     name: &str,
     kind: &str,
     help: &str,
     value: u64,
-    out: &mut Vec<u8>,
-) -> io::Result<()>
-    ensures { OnOk result (out.new.items ≡ out.old.items ++ run_metric name.now kind.now help.now value) }
+    out: &mut Vec<u8, A>,
+) -> Result<(), AllocError>
+    ensures { AppendsOrRefused A.Refuses out.old out.new result (run_metric name.now kind.now help.now value) }
 {
     put_metric(name, kind, help, out)?;
     put_value(name, value, out)
 }
 
 /// Appends whether bots may wait, whether the run is stopping, and its seconds.
-fn put_state(run: &RunStatus, out: &mut Vec<u8>) -> io::Result<()>
-    ensures { OnOk result (out.new.items ≡ out.old.items ++ waiting_metrics run.now) }
+fn put_state<A: Growth>(run: &RunStatus, out: &mut Vec<u8, A>) -> Result<(), AllocError>
+    ensures { AppendsOrRefused A.Refuses out.old out.new result (waiting_metrics run.now) }
 {
     put_run_metric(
         "bots_may_wait",
@@ -106,8 +110,11 @@ fn put_state(run: &RunStatus, out: &mut Vec<u8>) -> io::Result<()>
 }
 
 /// Appends the metrics of the run.
-pub(crate) fn put_metrics_head(run: &RunStatus, out: &mut Vec<u8>) -> io::Result<()>
-    ensures { OnOk result (out.new.items ≡ out.old.items ++ metrics_head run.now) }
+pub(crate) fn put_metrics_head<A: Growth>(
+    run: &RunStatus,
+    out: &mut Vec<u8, A>,
+) -> Result<(), AllocError>
+    ensures { AppendsOrRefused A.Refuses out.old out.new result (metrics_head run.now) }
 {
     put_run_metric(
         "sessions",
@@ -141,57 +148,65 @@ pub(crate) fn put_metrics_head(run: &RunStatus, out: &mut Vec<u8>) -> io::Result
 }
 
 /// Appends a sample of a session up to its labels after the session's own.
-fn put_sample_front(name: &str, row: &SessionRow, out: &mut Vec<u8>) -> io::Result<()>
-    ensures { OnOk result (out.new.items ≡ out.old.items ++ sample_front name.now row.now) }
+fn put_sample_front<A: Growth>(
+    name: &str,
+    row: &SessionRow,
+    out: &mut Vec<u8, A>,
+) -> Result<(), AllocError>
+    ensures { AppendsOrRefused A.Refuses out.old out.new result (sample_front name.now row.now) }
 {
     let number = row.number;
     let bot = row.bot;
-    write!(
+    A::append_text(
         out,
-        "daide_gate_{name}{{session=\"{number}\",bot=\"{bot}\","
+        format_args!("daide_gate_{name}{{session=\"{number}\",bot=\"{bot}\","),
     )
 }
 
 /// Appends the end of a sample.
-fn put_sample_end(value: u128, out: &mut Vec<u8>) -> io::Result<()>
-    ensures { OnOk result (out.new.items ≡ out.old.items ++ sample_end value) }
+fn put_sample_end<A: Growth>(value: u128, out: &mut Vec<u8, A>) -> Result<(), AllocError>
+    ensures { AppendsOrRefused A.Refuses out.old out.new result (sample_end value) }
 {
-    writeln!(out, "}} {value}")
+    A::append_text(out, format_args_nl!("}} {value}"))
 }
 
 /// Appends a sample of a session.
 #[tactic(auto, unfolding(crate::specs::Metrics::session_sample))]
-fn put_sample(
+fn put_sample<A: Growth>(
     name: &str,
     row: &SessionRow,
     label: &str,
     value: u128,
-    out: &mut Vec<u8>,
-) -> io::Result<()>
-    ensures { OnOk result (out.new.items ≡ out.old.items ++ session_sample name.now row.now label.now value) }
+    out: &mut Vec<u8, A>,
+) -> Result<(), AllocError>
+    ensures { AppendsOrRefused A.Refuses out.old out.new result (session_sample name.now row.now label.now value) }
 {
     put_sample_front(name, row, out)?;
-    out.write_all(label.as_bytes())?;
+    A::append(out, label.as_bytes())?;
     put_sample_end(value, out)
 }
 
 /// Appends the labels of a count: its side, and the name of its counter.
 #[tactic(auto, unfolding(crate::specs::Metrics::count_labels))]
-fn put_count_labels(side: &str, name: &str, out: &mut Vec<u8>) -> io::Result<()>
-    ensures { OnOk result (out.new.items ≡ out.old.items ++ count_labels side.now name.now) }
+fn put_count_labels<A: Growth>(
+    side: &str,
+    name: &str,
+    out: &mut Vec<u8, A>,
+) -> Result<(), AllocError>
+    ensures { AppendsOrRefused A.Refuses out.old out.new result (count_labels side.now name.now) }
 {
-    write!(out, "side=\"{side}\",result=\"{name}\"")
+    A::append_text(out, format_args!("side=\"{side}\",result=\"{name}\""))
 }
 
 /// Appends the number of frames from a side that a counter of this name counts.
-fn put_count(
+fn put_count<A: Growth>(
     row: &SessionRow,
     side: &str,
     name: &str,
     count: u64,
-    out: &mut Vec<u8>,
-) -> io::Result<()>
-    ensures { OnOk result (out.new.items ≡ out.old.items ++ count_sample row.now side.now name.now count) }
+    out: &mut Vec<u8, A>,
+) -> Result<(), AllocError>
+    ensures { AppendsOrRefused A.Refuses out.old out.new result (count_sample row.now side.now name.now count) }
 {
     put_sample_front("session_frames_total", row, out)?;
     put_count_labels(side, name, out)?;
@@ -199,13 +214,13 @@ fn put_count(
 }
 
 /// Appends the frames from a side, by what was done with them.
-fn put_side_frames(
+fn put_side_frames<A: Growth>(
     row: &SessionRow,
     side: &str,
     counts: &SideCounts,
-    out: &mut Vec<u8>,
-) -> io::Result<()>
-    ensures { OnOk result (out.new.items ≡ out.old.items ++ side_samples row.now side.now counts.now) }
+    out: &mut Vec<u8, A>,
+) -> Result<(), AllocError>
+    ensures { AppendsOrRefused A.Refuses out.old out.new result (side_samples row.now side.now counts.now) }
 {
     for counter in Counter::ALL {
         put_count(row, side, counter.name(), counts.of(counter), out)?;
@@ -214,8 +229,11 @@ fn put_side_frames(
 }
 
 /// Appends the frames of a session, by side and by what was done with them, and its faults.
-pub(crate) fn put_frames(row: &SessionRow, out: &mut Vec<u8>) -> io::Result<()>
-    ensures { OnOk result (out.new.items ≡ out.old.items ++ frame_samples row.now) }
+pub(crate) fn put_frames<A: Growth>(
+    row: &SessionRow,
+    out: &mut Vec<u8, A>,
+) -> Result<(), AllocError>
+    ensures { AppendsOrRefused A.Refuses out.old out.new result (frame_samples row.now) }
 {
     put_side_frames(row, "bot", &row.account.bot, out)?;
     put_side_frames(row, "server", &row.account.server, out)?;
@@ -224,16 +242,21 @@ pub(crate) fn put_frames(row: &SessionRow, out: &mut Vec<u8>) -> io::Result<()>
 }
 
 /// Appends the number of bytes with this side and this direction.
-fn put_byte_count(row: &SessionRow, label: &str, count: u64, out: &mut Vec<u8>) -> io::Result<()>
-    ensures { OnOk result (out.new.items
-        ≡ out.old.items ++ session_sample (codes "session_bytes_total") row.now label.now count) }
+fn put_byte_count<A: Growth>(
+    row: &SessionRow,
+    label: &str,
+    count: u64,
+    out: &mut Vec<u8, A>,
+) -> Result<(), AllocError>
+    ensures { AppendsOrRefused A.Refuses out.old out.new result
+        (session_sample (codes "session_bytes_total") row.now label.now count) }
 {
     put_sample("session_bytes_total", row, label, count as u128, out)
 }
 
 /// Appends the bytes received from each side, and those sent to each.
-pub(crate) fn put_bytes(row: &SessionRow, out: &mut Vec<u8>) -> io::Result<()>
-    ensures { OnOk result (out.new.items ≡ out.old.items ++ byte_samples row.now) }
+pub(crate) fn put_bytes<A: Growth>(row: &SessionRow, out: &mut Vec<u8, A>) -> Result<(), AllocError>
+    ensures { AppendsOrRefused A.Refuses out.old out.new result (byte_samples row.now) }
 {
     let (from_bot, from_server) = (row.received_from_bot, row.received_from_server);
     put_byte_count(row, "side=\"bot\",direction=\"received\"", from_bot, out)?;
@@ -249,8 +272,11 @@ pub(crate) fn put_bytes(row: &SessionRow, out: &mut Vec<u8>) -> io::Result<()>
 }
 
 /// Appends the bytes that wait for each side, in the session and in the side's socket.
-pub(crate) fn put_waiting(row: &SessionRow, out: &mut Vec<u8>) -> io::Result<()>
-    ensures { OnOk result (out.new.items ≡ out.old.items ++ waiting_samples row.now) }
+pub(crate) fn put_waiting<A: Growth>(
+    row: &SessionRow,
+    out: &mut Vec<u8, A>,
+) -> Result<(), AllocError>
+    ensures { AppendsOrRefused A.Refuses out.old out.new result (waiting_samples row.now) }
 {
     let to_bot = sum(row.queued_to_bot, row.buffered_to_bot);
     let to_server = sum(row.queued_to_server, row.buffered_to_server);
@@ -265,13 +291,13 @@ pub(crate) fn put_waiting(row: &SessionRow, out: &mut Vec<u8>) -> io::Result<()>
 }
 
 /// Appends the seconds since a side's last byte, if it has sent one.
-fn put_idle(
+fn put_idle<A: Growth>(
     row: &SessionRow,
     label: &str,
     seconds: Option<u64>,
-    out: &mut Vec<u8>,
-) -> io::Result<()>
-    ensures { OnOk result (out.new.items ≡ out.old.items ++ idle_sample row.now label.now seconds) }
+    out: &mut Vec<u8, A>,
+) -> Result<(), AllocError>
+    ensures { AppendsOrRefused A.Refuses out.old out.new result (idle_sample row.now label.now seconds) }
 {
     match seconds {
         Some(seconds) => put_sample("session_idle_seconds", row, label, seconds as u128, out),
@@ -280,8 +306,11 @@ fn put_idle(
 }
 
 /// Appends the seconds since each side's last byte.
-pub(crate) fn put_silence(row: &SessionRow, out: &mut Vec<u8>) -> io::Result<()>
-    ensures { OnOk result (out.new.items ≡ out.old.items ++ idle_samples row.now) }
+pub(crate) fn put_silence<A: Growth>(
+    row: &SessionRow,
+    out: &mut Vec<u8, A>,
+) -> Result<(), AllocError>
+    ensures { AppendsOrRefused A.Refuses out.old out.new result (idle_samples row.now) }
 {
     put_idle(row, "side=\"bot\"", row.bot_idle, out)?;
     put_idle(row, "side=\"server\"", row.server_idle, out)
@@ -300,16 +329,16 @@ fn phase_label(phase: Phase) -> &'static str
 }
 
 /// Appends the label of a name that is known.
-fn put_known_name(name: &BotName, out: &mut Vec<u8>) -> io::Result<()>
-    ensures { OnOk result (out.new.items ≡ out.old.items ++ (codes ",name=" ++ quoted_name name.now)) }
+fn put_known_name<A: Growth>(name: &BotName, out: &mut Vec<u8, A>) -> Result<(), AllocError>
+    ensures { AppendsOrRefused A.Refuses out.old out.new result (codes ",name=" ++ quoted_name name.now) }
 {
-    out.write_all(b",name=")?;
+    A::append(out, b",name=")?;
     put_quoted_name(name, out)
 }
 
 /// Appends the label of a bot's name, if the bot has said one.
-fn put_name_label(name: &BotName, out: &mut Vec<u8>) -> io::Result<()>
-    ensures { OnOk result (out.new.items ≡ out.old.items ++ name_label name.now) }
+fn put_name_label<A: Growth>(name: &BotName, out: &mut Vec<u8, A>) -> Result<(), AllocError>
+    ensures { AppendsOrRefused A.Refuses out.old out.new result (name_label name.now) }
 {
     match name {
         BotName::Unknown => Ok(()),
@@ -319,33 +348,34 @@ fn put_name_label(name: &BotName, out: &mut Vec<u8>) -> io::Result<()>
 }
 
 /// Appends the level of a session, with its phase and its bot's name.
-pub(crate) fn put_level(row: &SessionRow, out: &mut Vec<u8>) -> io::Result<()>
-    ensures { OnOk result (out.new.items ≡ out.old.items ++ level_sample row.now) }
+pub(crate) fn put_level<A: Growth>(row: &SessionRow, out: &mut Vec<u8, A>) -> Result<(), AllocError>
+    ensures { AppendsOrRefused A.Refuses out.old out.new result (level_sample row.now) }
 {
     put_sample_front("session_level", row, out)?;
-    out.write_all(phase_label(row.phase).as_bytes())?;
+    A::append(out, phase_label(row.phase).as_bytes())?;
     put_name_label(&row.account.name, out)?;
     put_sample_end(row.level.number() as u128, out)
 }
 
 /// Appends a metric of the sessions with all its samples.
-fn put_session_metric(
+fn put_session_metric<A: Growth>(
     name: &str,
     kind: &str,
     help: &str,
-    samples: &Vec<u8>,
-    out: &mut Vec<u8>,
-) -> io::Result<()>
-    ensures { OnOk result (out.new.items ≡ out.old.items ++ session_metric name.now kind.now help.now samples.now.items) }
+    samples: &Vec<u8, A>,
+    out: &mut Vec<u8, A>,
+) -> Result<(), AllocError>
+    ensures { AppendsOrRefused A.Refuses out.old out.new result
+        (session_metric name.now kind.now help.now samples.now.items) }
 {
     put_metric(name, kind, help, out)?;
-    out.write_all(samples.as_slice())
+    A::append(out, samples.as_slice())
 }
 
 /// Appends the counters of the sessions, each with all its samples.
-fn put_counters(samples: &Samples, out: &mut Vec<u8>) -> io::Result<()>
-    ensures { OnOk result (out.new.items
-        ≡ out.old.items ++ session_counters samples.now.frames.items samples.now.bytes.items) }
+fn put_counters<A: Growth>(samples: &Samples<A>, out: &mut Vec<u8, A>) -> Result<(), AllocError>
+    ensures { AppendsOrRefused A.Refuses out.old out.new result
+        (session_counters samples.now.frames.items samples.now.bytes.items) }
 {
     let done = "Frames of a session, by side and by what was done with them.";
     put_session_metric(
@@ -360,9 +390,12 @@ fn put_counters(samples: &Samples, out: &mut Vec<u8>) -> io::Result<()>
 }
 
 /// Appends the metrics of the sessions, each with all its samples.
-pub(crate) fn put_session_metrics(samples: &Samples, out: &mut Vec<u8>) -> io::Result<()>
-    ensures { OnOk result (out.new.items ≡ out.old.items
-        ++ session_metrics samples.now.frames.items samples.now.bytes.items samples.now.waiting.items
+pub(crate) fn put_session_metrics<A: Growth>(
+    samples: &Samples<A>,
+    out: &mut Vec<u8, A>,
+) -> Result<(), AllocError>
+    ensures { AppendsOrRefused A.Refuses out.old out.new result
+        (session_metrics samples.now.frames.items samples.now.bytes.items samples.now.waiting.items
         samples.now.idle.items samples.now.levels.items) }
 {
     put_counters(samples, out)?;

@@ -1,15 +1,16 @@
 //! The pieces of which the texts are made.
 
-ghost use Rattle.std.specs.Prelude.{◌≡◌, ◌+◌, ◌++◌, OnOk, codes};
+ghost use Rattle.std.specs.Prelude.{◌≡◌, ◌+◌, codes};
 ghost use Rattle.std.specs.List.{flat_map};
 ghost use Rattle.std.specs.Fmt.{decimal};
-ghost use Rattle.daide_status.specs.Pieces.{phase_name, right_aligned, cell, number_or_dash, number_or_null, text_if};
+ghost use Rattle.daide_protocol.specs.BotName.{name_text};
+ghost use Rattle.daide_status.specs.Pieces.{AppendsOrRefused, phase_name, right_aligned, cell, number_or_dash, number_or_null, text_if};
 ghost use Rattle.daide_status.specs.Pieces.{escaped_byte, quoted, quoted_name};
 
+use daide_causes::Growth;
 use daide_protocol::bot_name::TEXT_ROOM;
 use daide_protocol::{BotName, Phase};
-use std::io;
-use std::io::Write;
+use std::alloc::AllocError;
 
 /// Returns the name of a phase.
 pub(crate) fn phase_name(phase: Phase) -> &'static str
@@ -31,47 +32,58 @@ pub(crate) fn sum(one: usize, other: usize) -> u128
 }
 
 /// Appends a number, after as many spaces as its digits are fewer than a width.
-fn put_right(width: usize, number: u128, out: &mut Vec<u8>) -> io::Result<()>
-    ensures { OnOk result (out.new.items ≡ out.old.items ++ right_aligned width (decimal number)) }
+fn put_right<A: Growth>(width: usize, number: u128, out: &mut Vec<u8, A>) -> Result<(), AllocError>
+    ensures { AppendsOrRefused A.Refuses out.old out.new result (right_aligned width (decimal number)) }
 {
-    write!(out, "{number:>width$}")
+    A::append_text(out, format_args!("{number:>width$}"))
 }
 
 /// Appends a dash, after one space less than a width.
-fn put_dash(width: usize, out: &mut Vec<u8>) -> io::Result<()>
-    ensures { OnOk result (out.new.items ≡ out.old.items ++ right_aligned width (codes "-")) }
+fn put_dash<A: Growth>(width: usize, out: &mut Vec<u8, A>) -> Result<(), AllocError>
+    ensures { AppendsOrRefused A.Refuses out.old out.new result (right_aligned width (codes "-")) }
 {
-    write!(out, "{dash:>width$}", dash = "-")
+    A::append_text(out, format_args!("{dash:>width$}", dash = "-"))
 }
 
 /// Appends a number in a column of a width, after a space, so that a wider number is apart from the one before it too.
-pub(crate) fn put_cell(width: usize, number: u128, out: &mut Vec<u8>) -> io::Result<()>
-    ensures { OnOk result (out.new.items ≡ out.old.items ++ cell width (decimal number)) }
+pub(crate) fn put_cell<A: Growth>(
+    width: usize,
+    number: u128,
+    out: &mut Vec<u8, A>,
+) -> Result<(), AllocError>
+    ensures { AppendsOrRefused A.Refuses out.old out.new result (cell width (decimal number)) }
 {
-    out.write_all(b" ")?;
+    A::append(out, b" ")?;
     put_right(width, number, out)
 }
 
 /// Appends a number in a column, or a dash if there is none.
-pub(crate) fn put_or_dash(width: usize, number: Option<u64>, out: &mut Vec<u8>) -> io::Result<()>
-    ensures { OnOk result (out.new.items ≡ out.old.items ++ number_or_dash width number) }
+pub(crate) fn put_or_dash<A: Growth>(
+    width: usize,
+    number: Option<u64>,
+    out: &mut Vec<u8, A>,
+) -> Result<(), AllocError>
+    ensures { AppendsOrRefused A.Refuses out.old out.new result (number_or_dash width number) }
 {
     match number {
         Some(number) => put_cell(width, number as u128, out),
         None => {
-            out.write_all(b" ")?;
+            A::append(out, b" ")?;
             put_dash(width, out)
         }
     }
 }
 
 /// Appends a number, or `null` if there is none.
-pub(crate) fn put_or_null(number: Option<u64>, out: &mut Vec<u8>) -> io::Result<()>
-    ensures { OnOk result (out.new.items ≡ out.old.items ++ number_or_null number) }
+pub(crate) fn put_or_null<A: Growth>(
+    number: Option<u64>,
+    out: &mut Vec<u8, A>,
+) -> Result<(), AllocError>
+    ensures { AppendsOrRefused A.Refuses out.old out.new result (number_or_null number) }
 {
     match number {
-        Some(number) => write!(out, "{number}"),
-        None => out.write_all(b"null"),
+        Some(number) => A::append_text(out, format_args!("{number}")),
+        None => A::append(out, b"null"),
     }
 }
 
@@ -86,29 +98,33 @@ pub(crate) fn port_number(port: Option<u16>) -> Option<u64>
 }
 
 /// Appends a text if a condition holds.
-pub(crate) fn put_if(holds: bool, text: &str, out: &mut Vec<u8>) -> io::Result<()>
-    ensures { OnOk result (out.new.items ≡ out.old.items ++ text_if holds text.now) }
+pub(crate) fn put_if<A: Growth>(
+    holds: bool,
+    text: &str,
+    out: &mut Vec<u8, A>,
+) -> Result<(), AllocError>
+    ensures { AppendsOrRefused A.Refuses out.old out.new result (text_if holds text.now) }
 {
     if holds {
-        out.write_all(text.as_bytes())
+        A::append(out, text.as_bytes())
     } else {
         Ok(())
     }
 }
 
 /// Appends a byte of a text between double quotes.
-fn put_escaped_byte(byte: u8, out: &mut Vec<u8>) -> io::Result<()>
-    ensures { OnOk result (out.new.items ≡ out.old.items ++ escaped_byte byte) }
+fn put_escaped_byte<A: Growth>(byte: u8, out: &mut Vec<u8, A>) -> Result<(), AllocError>
+    ensures { AppendsOrRefused A.Refuses out.old out.new result (escaped_byte byte) }
 {
     if byte == b'"' || byte == b'\\' {
-        return out.write_all(&[b'\\', byte]);
+        return A::append(out, &[b'\\', byte]);
     }
-    out.write_all(&[byte])
+    A::append(out, &[byte])
 }
 
 /// Appends the bytes of a text between double quotes.
-fn put_escaped(text: &[u8], out: &mut Vec<u8>) -> io::Result<()>
-    ensures { OnOk result (out.new.items ≡ out.old.items ++ flat_map escaped_byte text.now) }
+fn put_escaped<A: Growth>(text: &[u8], out: &mut Vec<u8, A>) -> Result<(), AllocError>
+    ensures { AppendsOrRefused A.Refuses out.old out.new result (flat_map escaped_byte text.now) }
 {
     let mut rest = text;
     'bytes: while let [byte, others @ ..] = rest {
@@ -119,17 +135,29 @@ fn put_escaped(text: &[u8], out: &mut Vec<u8>) -> io::Result<()>
 }
 
 /// Appends a text between double quotes.
-fn put_quoted(text: &[u8], out: &mut Vec<u8>) -> io::Result<()>
-    ensures { OnOk result (out.new.items ≡ out.old.items ++ quoted text.now) }
+fn put_quoted<A: Growth>(text: &[u8], out: &mut Vec<u8, A>) -> Result<(), AllocError>
+    ensures { AppendsOrRefused A.Refuses out.old out.new result (quoted text.now) }
 {
-    out.write_all(b"\"")?;
+    A::append(out, b"\"")?;
     put_escaped(text, out)?;
-    out.write_all(b"\"")
+    A::append(out, b"\"")
+}
+
+/// Appends the text of a name.
+pub(crate) fn put_name<A: Growth>(name: &BotName, out: &mut Vec<u8, A>) -> Result<(), AllocError>
+    ensures { AppendsOrRefused A.Refuses out.old out.new result (name_text name.now) }
+{
+    let mut line = [0; TEXT_ROOM];
+    let len = name.put_text(&mut line);
+    A::append(out, &line[..len])
 }
 
 /// Appends the text of a name between double quotes.
-pub(crate) fn put_quoted_name(name: &BotName, out: &mut Vec<u8>) -> io::Result<()>
-    ensures { OnOk result (out.new.items ≡ out.old.items ++ quoted_name name.now) }
+pub(crate) fn put_quoted_name<A: Growth>(
+    name: &BotName,
+    out: &mut Vec<u8, A>,
+) -> Result<(), AllocError>
+    ensures { AppendsOrRefused A.Refuses out.old out.new result (quoted_name name.now) }
 {
     let mut line = [0; TEXT_ROOM];
     let len = name.put_text(&mut line);

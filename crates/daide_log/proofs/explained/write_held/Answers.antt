@@ -1,4 +1,6 @@
-use Rattle.daide_log.proofs.Common.{words_of}
+use Rattle.std.specs.Option.{unwrap_or}
+use Rattle.daide_grammar.specs.Level.{level_of_number}
+use Rattle.daide_log.proofs.Common.{◌≡◌, ◌∙◌, Some, ap, sym, Config, L0}
 use Rattle.daide_log.proofs.explained.write_held.Goals as goal
 
 pub write_message-requires-clause-ruled : goal.write_message-requires-clause-ruled
@@ -13,11 +15,16 @@ write_message-requires-clause-verdict g c =
 
 pub returns-clause-text : goal.returns-clause-text
 returns-clause-text g c =
+    let config = c.args.head.now.limits.config in
+    let level : level_of_number config.top_level ≡ Some c.top_level.result =
+    ap (λ (k : Config). level_of_number k.top_level) (sym c.of-limits.ensures) ∙ c.top_level.ensures in
+    let top : c.top_level.result ≡ unwrap_or (level_of_number config.top_level) L0 =
+    sym (ap (λ o. unwrap_or o L0) level) in
     rw (
       c.side2_of.ensures,
       c.verdict_by.ensures,
       c.body.ensures.value,
       c.capped_from.ensures,
-      c.top_level-top.ensures (words_of c.args.head.now.words),
+      top,
       c.noted.ensures,
     ) at c.write_message.ensures.text

@@ -6,7 +6,7 @@ use Rattle.daide_status.specs.Json.{json_sides}
 use Rattle.daide_status.proofs.json.put_counts.Given as goal
 
 abbrev pub invariant-loop-counter : goal.invariant-loop-counter
-invariant-loop-counter l =
+invariant-loop-counter g l =
     l.out.items ≡ l.initial.out.items
     ++ flat_map (λ counter. json_sides (counter_name counter) (side_count counter l.account.bot) (side_count counter l.account.server))
     (take l.counter-index all_counters)

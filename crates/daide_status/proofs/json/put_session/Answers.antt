@@ -1,6 +1,8 @@
-use Rattle.std.proofs.Common.{◌∙◌, ◌++◌, ap, append_assoc}
-use Rattle.std.proofs.lemmas.Result.{on_ok_weaker}
+use Rattle.std.proofs.Common.{append_assoc}
+use Rattle.daide_status.proofs.Chains.{appended_as}
 use Rattle.daide_status.proofs.json.put_session.Goals as goal
 
 pub returns : goal.returns
-returns c = on_ok_weaker c.write.result (λ e. e ∙ ap (λ t. c.args.out.now.items ++ t) (simp (append_assoc, c.phase_name-phase.ensures, c.number-level.ensures))) c.write.ensures.bytes
+returns g c =
+    appended_as _ c.args.out.now c.append_text.new.text c.append_text.result _ _ c.append_text.ensures.appended
+    c.append_text.ensures.refused (simp (append_assoc, c.phase_name-phase.ensures, c.number-level.ensures))

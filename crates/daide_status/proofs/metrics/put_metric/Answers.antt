@@ -1,5 +1,5 @@
-use Rattle.std.proofs.Common.{◌≡◌, ◌∙◌, ◌++◌, ℕ, List, ap, append_assoc, codes}
-use Rattle.std.proofs.lemmas.Result.{on_ok_weaker}
+use Rattle.std.proofs.Common.{◌≡◌, ◌++◌, ℕ, List, append_assoc, codes}
+use Rattle.daide_status.proofs.Chains.{appended_as}
 use Rattle.daide_status.proofs.metrics.put_metric.Goals as goal
 
 -- the pieces of the text, as the format string joins them and as the definition does
@@ -9,9 +9,8 @@ joined : (a name b help c kind d : List ℕ) →
 joined a name b help c kind d = simp append_assoc
 
 pub returns : goal.returns
-returns c =
-    on_ok_weaker c.write.result
-    (λ out. out ∙ ap (λ t. c.args.out.now.items ++ t)
+returns g c =
+    appended_as _ c.args.out.now c.append_text.new.text c.append_text.result _ _ c.append_text.ensures.appended
+    c.append_text.ensures.refused
     (joined (codes "# HELP daide_gate_") c.args.name.now (codes " ") c.args.help.now (codes "\n# TYPE daide_gate_")
-    c.args.kind.now (codes "\n")))
-    c.write.ensures.bytes
+    c.args.kind.now (codes "\n"))

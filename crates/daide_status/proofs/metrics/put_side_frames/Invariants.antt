@@ -6,7 +6,7 @@ use Rattle.daide_status.specs.Metrics.{count_sample}
 use Rattle.daide_status.proofs.metrics.put_side_frames.Given as goal
 
 abbrev pub invariant-loop-counter : goal.invariant-loop-counter
-invariant-loop-counter l =
+invariant-loop-counter g l =
     l.out.items ≡ l.initial.out.items
     ++ flat_map (λ counter. count_sample l.row l.side (counter_name counter) (side_count counter l.counts))
     (take l.counter-index all_counters)

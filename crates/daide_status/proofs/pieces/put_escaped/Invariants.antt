@@ -4,8 +4,8 @@ use Rattle.daide_status.specs.Pieces.{escaped_byte}
 use Rattle.daide_status.proofs.pieces.put_escaped.Given as goal
 
 abbrev pub invariant-bytes : goal.invariant-bytes
-invariant-bytes l =
+invariant-bytes g l =
     l.out.items ++ flat_map escaped_byte l.rest ≡ l.initial.out.items ++ flat_map escaped_byte l.text
 
 abbrev pub decreases-bytes : goal.decreases-bytes
-decreases-bytes l = length l.rest
+decreases-bytes g l = length l.rest

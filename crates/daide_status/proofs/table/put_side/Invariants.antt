@@ -7,7 +7,7 @@ use Rattle.daide_status.specs.Pieces.{cell}
 use Rattle.daide_status.proofs.table.put_side.Given as goal
 
 abbrev pub invariant-loop-counter : goal.invariant-loop-counter
-invariant-loop-counter l =
+invariant-loop-counter g l =
     l.out.items ≡ l.initial.out.items
     ++ flat_map (λ counter. cell (max (length (counter_name counter)) 4) (decimal (side_count counter l.counts)))
     (take l.counter-index all_counters)
