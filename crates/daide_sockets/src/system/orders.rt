@@ -84,6 +84,8 @@ impl<'w, N: Network, E: Write + Drop> Sockets<'w, N, E> {
     /// `control`: a status has the run as it is at the beginning of the round.
     ///
     /// `armed`: the next poll watches the control socket.
+    ///
+    /// `calls`: of the network it only accepts and follows control connections, and closes the listener for bots (`GoesBy`).
     pub(super) fn take_orders(&mut self) -> Orders
         ensures orders { result.stops_accepting ≡ self.new.control.stops_accepting }
         ensures kept { self.old.control.stops_accepting ≡ true → self.new.control.stops_accepting ≡ true }
