@@ -12,9 +12,7 @@ use Rattle.daide_io.specs.declared.ports.Put.TheVariants.{Took}
 use Rattle.daide_io.specs.declared.system.Connect.{Connect}
 use Rattle.daide_io.specs.declared.system.Connect.TheVariants.{Ready, Failed, Pending}
 use Rattle.daide_sockets.specs.Clock.{earlier, next_deadline, is_past}
-use Rattle.daide_io.specs.Network.{NetworkCall, ReadsClock, Listens, AcceptsConnection, StopsListening, ListensForControl}
-use Rattle.daide_io.specs.Network.{AcceptsControl, BeginsConnect, Follows, AsksConnect}
-use Rattle.daide_io.specs.Network as Networks
+use Rattle.daide_io.specs.Network.{NetworkCall, StopsListening, AcceptsControl, BeginsConnect, Follows, AsksConnect}
 use Rattle.daide_io.specs.Ports.{PortCall, TurnBegins, Clock, Pulled, Offered}
 use Rattle.daide_io.specs.ReadyQueue.{is_among}
 use Rattle.daide_io.specs.Streams.{StreamCall}
@@ -127,42 +125,22 @@ KeepsReports view Pending old place new = report_at new (key_of place Bot) ≡ r
 
 -- a call that follows a connection
 abbrev pub is_follow : {C : Type 0} → NetworkCall C → Bool
-is_follow (ReadsClock reading) = false
-is_follow (Networks.Polls timeout socket_events) = false
-is_follow (Listens key is_followed) = false
-is_follow (AcceptsConnection accepted) = false
-is_follow StopsListening = false
-is_follow (ListensForControl key is_followed) = false
-is_follow (AcceptsControl accepted) = false
-is_follow (BeginsConnect address begun) = false
 is_follow (Follows before key is_followed after) = true
-is_follow (AsksConnect connection status) = false
+is_follow _ = false
 
 -- a call of a connect: it begins, is asked for its state, or is followed
 abbrev pub is_of_connect : {C : Type 0} → NetworkCall C → Bool
-is_of_connect (ReadsClock reading) = false
-is_of_connect (Networks.Polls timeout socket_events) = false
-is_of_connect (Listens key is_followed) = false
-is_of_connect (AcceptsConnection accepted) = false
-is_of_connect StopsListening = false
-is_of_connect (ListensForControl key is_followed) = false
-is_of_connect (AcceptsControl accepted) = false
 is_of_connect (BeginsConnect address begun) = true
 is_of_connect (Follows before key is_followed after) = true
 is_of_connect (AsksConnect connection status) = true
+is_of_connect _ = false
 
 -- a call that a poll may make after it: a control connection is accepted or followed, or the listener for bots is closed
 abbrev pub is_after_poll : {C : Type 0} → NetworkCall C → Bool
-is_after_poll (ReadsClock reading) = false
-is_after_poll (Networks.Polls timeout socket_events) = false
-is_after_poll (Listens key is_followed) = false
-is_after_poll (AcceptsConnection accepted) = false
 is_after_poll StopsListening = true
-is_after_poll (ListensForControl key is_followed) = false
 is_after_poll (AcceptsControl accepted) = true
-is_after_poll (BeginsConnect address begun) = false
 is_after_poll (Follows before key is_followed after) = true
-is_after_poll (AsksConnect connection status) = false
+is_after_poll _ = false
 
 -- the network went from one value to another by these calls
 abbrev pub CallsNetworkBy : {N C : Type 0} → (N → NetworkCall C → N → Type 0) → N → List (NetworkCall C) → N → Type 0
