@@ -187,5 +187,5 @@ returns-in-Err-clause-unreached g c = λ failed off.
       c.in-Some.arrival,
       c.advances.new.poller.network,
       c.in-Some.ensures.some,
-      unreached g.N.Network.transition _ _ _ _ _ _ _ (λ early. all early c.in-Err.ensures.unreached.2) tries,
+      unreached g.N.Network.transition _ _ _ _ _ _ _ (λ early. all early c.in-Err.ensures.unreached.2) tried,
     )
