@@ -149,7 +149,7 @@ module _ {P S N C : Type 0} (transition : N → NetworkCall C → N → Type 0) 
       (λ e. (h.1.1.asleep place l e).0) (λ ports e. absurd (cc)) quiet
   step old new (Shows ports status) last place l h quiet = subst (λ (s : N × Table). Quiet place last s.1) (sym h.1) quiet
   step old new (Accepts other came) last place l h quiet =
-      about place (other == place) (Accepts other came) last old.1 new.1 (λ e. h.1.1 place l e) (λ ports e. absurd (cc)) quiet
+      about place (other == place) (Accepts other came) last old.1 new.1 (λ e. h.1 place l e) (λ ports e. absurd (cc)) quiet
   step old new (Connects other connect) last place l h quiet =
       about place (other == place) (Connects other connect) last old.1 new.1 (λ e. h.1.1 place l e) (λ ports e. absurd (cc)) quiet
   step old new (BeginsTurn other before after) last place l h quiet =

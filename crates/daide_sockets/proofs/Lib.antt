@@ -3,7 +3,7 @@ mod OnceLemmas
 mod LingeringLemmas
 mod TableLemmas
 pub mod KeptRowLemmas
-mod UnpolledLemmas
+mod NetworkCallLemmas
 mod PollLemmas
 mod RunPollLemmas
 mod AtRestLemmas

@@ -17,7 +17,7 @@ use Rattle.daide_sockets.specs.Table.{Table, IsPollTime, PollsOnce, changed, dea
 use Rattle.daide_sockets.specs.Table.{merged, report_at, report_of, row_at, disarmed, arming, with_event, with_events}
 use Rattle.daide_sockets.specs.Clock.{is_past}
 use Rattle.daide_sockets.specs.Table.{arming_all}
-use Rattle.daide_sockets.specs.Wakeups.{GoesUnpolled, KeepsPlace, PollsForPlaces, PollsPlaces}
+use Rattle.daide_sockets.specs.Wakeups.{GoesBy, KeepsPlace, PollsForPlaces, PollsPlaces, is_after_poll}
 use Rattle.daide_sockets.specs.declared.control.Control.{Control}
 use Rattle.daide_sockets.specs.declared.listener.Listener.{Listener}
 use Rattle.daide_sockets.specs.declared.control_connection.ControlConnection.{ControlConnection}
@@ -221,7 +221,7 @@ module _ {N C S : Type 0} (transition : N → NetworkCall C → N → Type 0) (t
       grind (arith, none, all)
 
   polls_for_places : AreRowsOf before given → (others : List (Bool × Option Instant)) (may_block : Bool) →
-      IsPollTime may_block (arming_all before others) time → GoesUnpolled transition polled_network new_network →
+      IsPollTime may_block (arming_all before others) time → GoesBy is_after_poll transition polled_network new_network →
       PollsForPlaces transition others may_block (woken ++ more) network before new_network last
   polls_for_places rows others may_block lasts goes = record {
     time = time;
@@ -254,7 +254,7 @@ module _ {N C S : Type 0} (transition : N → NetworkCall C → N → Type 0) (t
 
   -- the poll of a run: the places stay, and the clock is not read again; the rows stay those of closing streams
   pub polls_run : (others : List (Bool × Option Instant)) (may_block : Bool) →
-      IsPollTime may_block (arming_all before others) time → GoesUnpolled transition polled_network new_network →
+      IsPollTime may_block (arming_all before others) time → GoesBy is_after_poll transition polled_network new_network →
       (length last.deadlines ≡ length before.deadlines) × (last.reading ≡ first.reading)
       × (AreRowsOf before given → AreRowsOf last left
       × PollsForPlaces transition others may_block (woken ++ more) network before new_network last)

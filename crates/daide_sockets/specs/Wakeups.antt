@@ -12,9 +12,7 @@ use Rattle.daide_io.specs.declared.ports.Put.TheVariants.{Took}
 use Rattle.daide_io.specs.declared.system.Connect.{Connect}
 use Rattle.daide_io.specs.declared.system.Connect.TheVariants.{Ready, Failed, Pending}
 use Rattle.daide_sockets.specs.Clock.{earlier, next_deadline, is_past}
-use Rattle.daide_io.specs.Network.{NetworkCall, ReadsClock, Listens, AcceptsConnection, StopsListening, ListensForControl}
-use Rattle.daide_io.specs.Network.{AcceptsControl, BeginsConnect, Follows, AsksConnect}
-use Rattle.daide_io.specs.Network as Networks
+use Rattle.daide_io.specs.Network.{NetworkCall, StopsListening, AcceptsControl, BeginsConnect, Follows, AsksConnect}
 use Rattle.daide_io.specs.Ports.{PortCall, TurnBegins, Clock, Pulled, Offered}
 use Rattle.daide_io.specs.ReadyQueue.{is_among}
 use Rattle.daide_io.specs.Streams.{StreamCall}
@@ -125,27 +123,34 @@ KeepsReports view (Ready ports) old place new = (report_at new (key_of place Bot
 KeepsReports view Failed old place new = Unit {0}
 KeepsReports view Pending old place new = report_at new (key_of place Bot) ≡ report_at old (key_of place Bot)
 
--- a call that polls
-abbrev pub is_poll : {C : Type 0} → NetworkCall C → Bool
-is_poll (ReadsClock reading) = false
-is_poll (Networks.Polls timeout socket_events) = true
-is_poll (Listens key is_followed) = false
-is_poll (AcceptsConnection accepted) = false
-is_poll StopsListening = false
-is_poll (ListensForControl key is_followed) = false
-is_poll (AcceptsControl accepted) = false
-is_poll (BeginsConnect address begun) = false
-is_poll (Follows before key is_followed after) = false
-is_poll (AsksConnect connection status) = false
+-- a call that follows a connection
+abbrev pub is_follow : {C : Type 0} → NetworkCall C → Bool
+is_follow (Follows before key is_followed after) = true
+is_follow _ = false
 
--- The network went from one value to another by calls, none of which was a poll.
+-- a call of a connect: it begins, is asked for its state, or is followed
+abbrev pub is_of_connect : {C : Type 0} → NetworkCall C → Bool
+is_of_connect (BeginsConnect address begun) = true
+is_of_connect (Follows before key is_followed after) = true
+is_of_connect (AsksConnect connection status) = true
+is_of_connect _ = false
+
+-- a call that a poll may make after it: a control connection is accepted or followed, or the listener for bots is closed
+abbrev pub is_after_poll : {C : Type 0} → NetworkCall C → Bool
+is_after_poll StopsListening = true
+is_after_poll (AcceptsControl accepted) = true
+is_after_poll (Follows before key is_followed after) = true
+is_after_poll _ = false
+
+-- the network went from one value to another by these calls
 abbrev pub CallsNetworkBy : {N C : Type 0} → (N → NetworkCall C → N → Type 0) → N → List (NetworkCall C) → N → Type 0
 CallsNetworkBy transition old [] new = new ≡ old
 CallsNetworkBy {N} transition old (call ∷ calls) new = (mid : N) × transition old call mid × CallsNetworkBy transition mid calls new
 
-abbrev pub GoesUnpolled : {N C : Type 0} → (N → NetworkCall C → N → Type 0) → N → N → Type 0
-GoesUnpolled {N} {C} transition old new =
-    (calls : List (NetworkCall C)) × CallsNetworkBy transition old calls new × All (λ call. is_poll call ≡ false) calls
+-- the same, by calls of this kind alone
+abbrev pub GoesBy : {N C : Type 0} → (NetworkCall C → Bool) → (N → NetworkCall C → N → Type 0) → N → N → Type 0
+GoesBy {N} {C} kind transition old new =
+    (calls : List (NetworkCall C)) × CallsNetworkBy transition old calls new × All (λ call. kind call ≡ true) calls
 
 -- ---- a turn
 
@@ -183,7 +188,7 @@ pub record PollsForPlaces {N C : Type 0} (transition : N → NetworkCall C → N
   pub reported : Table
   pub lasts : IsPollTime may_block (arming_all before others) time
   pub polls : PollsOnce transition time old before polled reported
-  pub goes_on : GoesUnpolled transition polled new
+  pub goes_on : GoesBy is_after_poll transition polled new
   pub reading : after.reading ≡ reported.reading
   pub reports : (key : ℕ) → key ≤ listener_key before → report_at after key ≡ report_at reported key
   pub asleep : (place : ℕ) → place < length before.deadlines → is_among place woken ≡ false →
@@ -197,22 +202,24 @@ pub record KeepsPlaces (old new : Table) : Type 0 where
   pub bounded : AreDeadlinesBounded new
 
 -- What a call does to the network and the table, as far as the places need it; `view` is the content of ports. Only a poll
--- polls the network. A call about a place keeps what is known of the others, and one that is about none changes nothing.
+-- polls the network. What an accept does to it is in `AsksListener`. A connect makes only calls of connects, and the end of a
+-- session follows only its sockets: neither accepts a bot or closes a listener. A call about a place keeps what is known of
+-- the others, and one that is about none changes nothing.
 abbrev pub WakesBy : {P S N C : Type 0} → (N → NetworkCall C → N → Type 0) → (S → Option (List StreamCall)) →
     (P → SessionSockets S) → N × Table → SystemCall P → N × Table → Type 0
 WakesBy transition calls view old (Polls may_block woken orders) new = (others : List (Bool × Option Instant))
     × PollsForPlaces transition others may_block woken old.0 old.1 new.0 new.1
 WakesBy transition calls view old (Shows ports status) new = new ≡ old
-WakesBy transition calls view old (Accepts place came) new =
-    GoesUnpolled transition old.0 new.0 × KeepsOtherPlaces old.1 place new.1
+WakesBy transition calls view old (Accepts place came) new = KeepsOtherPlaces old.1 place new.1
 WakesBy transition calls view old (Connects place connect) new =
-    GoesUnpolled transition old.0 new.0 × KeepsOtherPlaces old.1 place new.1 × KeepsReports view connect old.1 place new.1
+    GoesBy is_of_connect transition old.0 new.0 × KeepsOtherPlaces old.1 place new.1
+    × KeepsReports view connect old.1 place new.1
 WakesBy transition calls view old (BeginsTurn place before after) new =
     (new.0 ≡ old.0) × TakesReports calls old.1 place (view before) (view after) new.1
 WakesBy transition calls view old (Rests place ports rests) new =
     (new.0 ≡ old.0) × RestsFor rests old.1 place (view ports) new.1
 WakesBy transition calls view old (Retires place ports end) new =
-    GoesUnpolled transition old.0 new.0 × KeepsOtherPlaces old.1 place new.1
+    GoesBy is_follow transition old.0 new.0 × KeepsOtherPlaces old.1 place new.1
 WakesBy transition calls view old (Notifies notice) new = new ≡ old
 
 abbrev pub Wakes : {P S N C : Type 0} → (N → NetworkCall C → N → Type 0) → (S → Option (List StreamCall)) →

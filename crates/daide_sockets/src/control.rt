@@ -12,7 +12,7 @@ ghost use Rattle.daide_sockets.specs.ControlSlots.{MakesControlAccept, AcceptsOn
 ghost use Rattle.daide_sockets.specs.ControlSlots.{is_listener_due};
 ghost use Rattle.daide_sockets.specs.KeptRows.{ChangesRows};
 ghost use Rattle.daide_sockets.specs.Table.{Table, control_key, report_at};
-ghost use Rattle.daide_sockets.specs.Wakeups.{GoesUnpolled};
+ghost use Rattle.daide_sockets.specs.Wakeups.{GoesBy, is_after_poll};
 
 use crate::control_connection::ControlConnection;
 use crate::listener::Listener;
@@ -250,7 +250,7 @@ fn accept_from<N: Network>(
     ensures made { is_control_due poller.old.table listener.old ≡ true → MakesControlAccept N.transition poller.old.network }
     ensures not_made { is_control_due poller.old.table listener.old ≡ false →
         (result ≡ None) × (listener.new ≡ listener.old) × (poller.new ≡ poller.old) }
-    ensures calls { GoesUnpolled N.transition poller.old.network poller.new.network }
+    ensures calls { GoesBy is_after_poll N.transition poller.old.network poller.new.network }
     ensures table { ChangesRows (IsControlRow poller.old.table) poller.old.table poller.new.table }
 {
     let own = poller.table.control_key();
@@ -334,7 +334,7 @@ impl<S: Duplex + Drop> Control<S> {
         ensures accepts { AcceptsOne poller.old.table.reading (places self.old.slots) (places self.new.slots) }
         ensures same { (self.new.stops_accepting ≡ self.old.stops_accepting) × (self.new.stops_now ≡ self.old.stops_now)
             × (self.new.started_at ≡ self.old.started_at) }
-        ensures calls { GoesUnpolled N.transition poller.old.network poller.new.network }
+        ensures calls { GoesBy is_after_poll N.transition poller.old.network poller.new.network }
         ensures table { ChangesRows (IsControlRow poller.old.table) poller.old.table poller.new.table }
     {
         let Some(listener) = &mut self.listener else {
@@ -402,7 +402,7 @@ impl<S: Duplex + Drop> Control<S> {
         run: &RunStatus,
     ) -> Orders
         ensures control { BeginsRound S.to_give S.taken S.calls run.now poller.old.table self.old result self.new }
-        ensures calls { GoesUnpolled N.transition poller.old.network poller.new.network }
+        ensures calls { GoesBy is_after_poll N.transition poller.old.network poller.new.network }
         ensures kept { self.old.stops_accepting ≡ true → self.new.stops_accepting ≡ true }
         ensures now_kept { self.old.stops_now ≡ true → self.new.stops_now ≡ true }
         ensures table { ChangesRows (IsControlRow poller.old.table) poller.old.table poller.new.table }

@@ -69,8 +69,8 @@ use std::time::Duration;
 /// past. It polls once, and watches the listener and each closing socket (`PollsForRun`) beside the places and the control
 /// socket. It blocks only if it may, and if nothing of these has work, until the nearest deadline. What it reported of a place
 /// stays in its rows until the session takes it. With a free place, exactly one accept is made if the listener is ready
-/// (`accept_next`: `made`), and no other call but connects for its bot. If it brings no bot, it failed, or its bot may not come,
-/// or the system refused to follow its connection (`kept`). From then on the next poll is for bots too (`awaited`), so it does
+/// (`accept_next`: `made`), and no other call but connects for its bot. No other call of these sockets accepts one (`GoesBy`). If it
+/// brings no bot, it failed, or its bot may not come, or the system refused to follow its connection (`kept`). From then on the next poll is for bots too (`awaited`), so it does
 /// not block while an accept is due. A bot is accepted only if it may come by the settings, beside the hosts of those that are
 /// there. What is judged is the address that the network returned with its connection (`accept`: `admitted`). A bot that comes
 /// is added to those, with this address, which the ports of its session have for the records and the status (`IsJoined`). The end
@@ -517,6 +517,9 @@ impl<'w, N: Network, E: Write + Drop> System<SocketPorts<'w, N::Connection>> for
     /// reported of the connect, or until its deadline. After a request that sessions end now, the connect is given up.
     ///
     /// `present`, `leaves`: those present are the same, except for a bot whose connect is given up.
+    ///
+    /// `transition`: it makes only calls of a connect: one begins, is asked for its state, or a socket is followed. So it accepts
+    /// no bot and closes no listener (`GoesBy`).
     #[inline(never)]
     fn connected(&mut self, place: usize) -> Connect<SocketPorts<'w, N::Connection>>
         ensures transition { RunEvolves N.transition N.Connection.to_give N.Connection.taken N.Connection.calls
@@ -573,6 +576,9 @@ impl<'w, N: Network, E: Write + Drop> System<SocketPorts<'w, N::Connection>> for
         }
     }
 
+    /// Ends the session at a place: both its sockets begin to close.
+    ///
+    /// `transition`: it makes no call of the network but those that follow these two sockets (`GoesBy`).
     fn retire(&mut self, place: usize, ports: SocketPorts<'w, N::Connection>, end: SessionEnd)
         ensures transition { RunEvolves N.transition N.Connection.to_give N.Connection.taken N.Connection.calls
             (λ (ports : PortsOf N.Connection). ports)

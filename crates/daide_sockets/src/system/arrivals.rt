@@ -13,7 +13,7 @@ ghost use Rattle.daide_sockets.specs.Present.{AdmitsBot, HasRoomForOne, hosts_of
 ghost use Rattle.daide_sockets.specs.Rows.{KeepsClosingRows, closing_keys};
 ghost use Rattle.daide_sockets.specs.Scheduling.{RunEvolves, run_state};
 ghost use Rattle.daide_sockets.specs.Table.{forgotten, key_of};
-ghost use Rattle.daide_sockets.specs.Wakeups.{GoesUnpolled};
+ghost use Rattle.daide_sockets.specs.Wakeups.{GoesBy, is_of_connect};
 ghost use Rattle.daide_sockets.specs.declared.ports.SocketPorts.{SocketPorts as PortsOf};
 
 use super::Sockets;
@@ -52,7 +52,7 @@ impl<'w, N: Network, E: Write + Drop> Sockets<'w, N, E> {
             self.old.poller.table.reading self.old.closings left.entry.bot.stream self.new.closings }
         ensures present { self.new.present.bots.items ≡ without_bot left.entry.identity.number self.old.present.bots.items }
         ensures clock { self.new.poller.table.reading ≡ self.old.poller.table.reading }
-        ensures calls { GoesUnpolled N.transition self.old.poller.network self.new.poller.network }
+        ensures calls { GoesBy is_of_connect N.transition self.old.poller.network self.new.poller.network }
         ensures rows { KeepsClosingRows (forgotten self.old.poller.table place) (closing_keys self.old.closings.streams)
             self.new.poller.table (closing_keys self.new.closings.streams) }
         ensures same { self.new ≡ record self.old {

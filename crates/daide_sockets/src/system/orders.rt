@@ -9,7 +9,7 @@ ghost use Rattle.daide_sockets.specs.KeptRows.{ChangesRows};
 ghost use Rattle.daide_sockets.specs.Pairing.{pending_connects};
 ghost use Rattle.daide_sockets.specs.Snapshot.{counted, seconds_between, or_zero, IsRunStatus};
 ghost use Rattle.daide_sockets.specs.Table.{Table};
-ghost use Rattle.daide_sockets.specs.Wakeups.{GoesUnpolled};
+ghost use Rattle.daide_sockets.specs.Wakeups.{GoesBy, is_after_poll};
 
 use super::Sockets;
 use crate::admission::pending_count;
@@ -84,6 +84,8 @@ impl<'w, N: Network, E: Write + Drop> Sockets<'w, N, E> {
     /// `control`: a status has the run as it is at the beginning of the round.
     ///
     /// `armed`: the next poll watches the control socket.
+    ///
+    /// `calls`: of the network it only accepts and follows control connections, and closes the listener for bots (`GoesBy`).
     pub(super) fn take_orders(&mut self) -> Orders
         ensures orders { result.stops_accepting ≡ self.new.control.stops_accepting }
         ensures kept { self.old.control.stops_accepting ≡ true → self.new.control.stops_accepting ≡ true }
@@ -97,7 +99,7 @@ impl<'w, N: Network, E: Write + Drop> Sockets<'w, N, E> {
             N.Connection.calls run self.old.poller.table self.old.control result self.new.control }
         ensures armed { (before : Table) × ChangesRows (IsControlRow self.old.poller.table) self.old.poller.table before
             × (self.new.poller.table ≡ arming_control before self.new.control) }
-        ensures calls { GoesUnpolled N.transition self.old.poller.network self.new.poller.network }
+        ensures calls { GoesBy is_after_poll N.transition self.old.poller.network self.new.poller.network }
         ensures closes { result.stops_accepting ≡ true → self.old.control.stops_accepting ≡ false →
             (before : N) × N.transition before StopsListening self.new.poller.network }
         ensures all_came { self.old.bots_in_all ≤ self.old.acceptor.came → self.old.acceptor.is_closed ≡ false →

@@ -4,7 +4,8 @@ use Rattle.std.specs.declared.time.Instant.{Instant}
 use Rattle.daide_sockets.specs.Clock.{IsAfter}
 use Rattle.daide_sockets.proofs.ControlLemmas.{connection_row}
 use Rattle.daide_sockets.proofs.KeptRowLemmas.{changes_none, same_reading}
-use Rattle.daide_sockets.proofs.UnpolledLemmas.{none}
+use Rattle.daide_sockets.proofs.NetworkCallLemmas.{none}
+use Rattle.daide_sockets.specs.Wakeups.{is_after_poll}
 use Rattle.daide_sockets.proofs.control.Control.accept.Goals as goal
 
 pub accept_from-requires : goal.accept_from-requires
@@ -34,13 +35,13 @@ pub returns-in_default-clause-table : goal.returns-in_default-clause-table
 returns-in_default-clause-table g c = changes_none _ _ _ refl
 
 pub returns-in_default-clause-calls : goal.returns-in_default-clause-calls
-returns-in_default-clause-calls g c = none g.N.Network.transition _ _ refl
+returns-in_default-clause-calls g c = none g.N.Network.transition is_after_poll _ _ refl
 
 pub returns-then-not-has_room-clause-table : goal.returns-then-not-has_room-clause-table
 returns-then-not-has_room-clause-table g c = changes_none _ _ _ refl
 
 pub returns-then-not-has_room-clause-calls : goal.returns-then-not-has_room-clause-calls
-returns-then-not-has_room-clause-calls g c = none g.N.Network.transition _ _ refl
+returns-then-not-has_room-clause-calls g c = none g.N.Network.transition is_after_poll _ _ refl
 
 pub returns-in_default-accept_from-clause-table : goal.returns-in_default-accept_from-clause-table
 returns-in_default-accept_from-clause-table g c = c.accept_from.ensures.table

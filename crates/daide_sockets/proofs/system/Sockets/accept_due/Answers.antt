@@ -2,7 +2,6 @@ use Rattle.std.proofs.Common.{◌≡◌, ℕ, List, Option, refl, ap, ◌∙◌}
 use Rattle.daide_sockets.specs.Pairing.{Arriving, RunSockets}
 use Rattle.daide_sockets.proofs.KeptRowLemmas.{accept_beside, accept_holds, accept_others, same_deadlines}
 use Rattle.daide_sockets.proofs.PairingLemmas.{same_sockets}
-use Rattle.daide_sockets.proofs.UnpolledLemmas.{accepts_unpolled, asked_unpolled}
 use Rattle.std.proofs.Common.{length}
 use Rattle.daide_sockets.proofs.system.Sockets.accept_due.Goals as goal
 
@@ -15,12 +14,7 @@ returns-in_default-clause-transition g c =
       same_sockets _ _ _ _ _ none.0 none.1,
       (
         record { places = ap length (same_deadlines _ _ _ asked.table); bounded = c.is_bounded.ensures },
-        (
-          asked_unpolled g.N.Network.transition c.args.place _ c.args.self.now.acceptor.came 4294967295 _ _ _ _
-              (λ lt free few due. accepts_unpolled g.N.Network.transition c.args.self.now.servers.now _ _ (asked.made lt free few due))
-              asked.not_made,
-          accept_others _ _ c.args.place asked.table,
-        ),
+        accept_others _ _ c.args.place asked.table,
       ),
       (
         (refl, refl),
@@ -50,12 +44,7 @@ returns-clause-transition g c =
           places = ap length (same_deadlines _ _ _ asked.table);
           bounded = rw c.log_session.ensures at c.is_bounded-2.ensures;
         },
-        (
-          asked_unpolled g.N.Network.transition c.args.place _ c.args.self.now.acceptor.came 4294967295 _ _ _ _
-              (λ lt free few due. accepts_unpolled g.N.Network.transition c.args.self.now.servers.now _ _ (asked.made lt free few due))
-              asked.not_made,
-          accept_others _ _ c.args.place asked.table,
-        ),
+        accept_others _ _ c.args.place asked.table,
       ),
       (
         (refl, refl),

@@ -2,10 +2,10 @@ use Rattle.std.proofs.Common.{◌≡◌, refl, ap, ◌∙◌}
 use Rattle.daide_io.specs.Network.{StopsListening}
 use Rattle.daide_sockets.specs.ControlSlots.{IsControlRow}
 use Rattle.daide_sockets.specs.KeptRows.{ChangesRows}
-use Rattle.daide_sockets.specs.Wakeups.{GoesUnpolled}
+use Rattle.daide_sockets.specs.Wakeups.{GoesBy, is_after_poll}
 use Rattle.daide_sockets.proofs.AtRestLemmas.{some_status}
 use Rattle.daide_sockets.proofs.KeptRowLemmas.{changes_none}
-use Rattle.daide_sockets.proofs.UnpolledLemmas.{both, none, one}
+use Rattle.daide_sockets.proofs.NetworkCallLemmas.{both, none, one}
 use Rattle.daide_sockets.proofs.system.Sockets.take_orders.Goals as goal
 use Rattle.daide_sockets.proofs.system.Sockets.take_orders.Goals.{then-is_stopped_now, else-is_stopped_now+else-not-is_closed}
 
@@ -19,7 +19,7 @@ returns-then-has_no_orders-clause-armed g c =
     (c.args.self.now.poller.table, changes_none _ _ _ refl, c.has_no_orders.ensures.armed c.if-has_no_orders.true)
 
 pub returns-then-has_no_orders-clause-calls : goal.returns-then-has_no_orders-clause-calls
-returns-then-has_no_orders-clause-calls g c = none g.N.Network.transition _ _ refl
+returns-then-has_no_orders-clause-calls g c = none g.N.Network.transition is_after_poll _ _ refl
 
 -- the next poll watches it as it is after the listener for bots was closed, or was not
 pub returns-clause-armed : goal.returns-clause-armed
@@ -33,12 +33,12 @@ returns-clause-armed g c =
 
 pub returns-clause-calls : goal.returns-clause-calls
 returns-clause-calls g c =
-    let closes : GoesUnpolled g.N.Network.transition c.begin_round-orders.new.poller.network c.if-is_stopped_now.self.poller.network =
+    let closes : GoesBy is_after_poll g.N.Network.transition c.begin_round-orders.new.poller.network c.if-is_stopped_now.self.poller.network =
     elim c.if-is_stopped_now.branch [
-      | then-is_stopped_now w ↦ rw w.self-is (one g.N.Network.transition _ _ StopsListening refl w.close.ensures.closes)
-      | else-is_stopped_now+else-not-is_closed w ↦ rw w.self-is (none g.N.Network.transition _ _ refl)
+      | then-is_stopped_now w ↦ rw w.self-is (one g.N.Network.transition is_after_poll _ _ StopsListening refl w.close.ensures.closes)
+      | else-is_stopped_now+else-not-is_closed w ↦ rw w.self-is (none g.N.Network.transition is_after_poll _ _ refl)
     ] in
-    both g.N.Network.transition _ _ _ c.begin_round-orders.ensures.calls closes
+    both g.N.Network.transition is_after_poll _ _ _ c.begin_round-orders.ensures.calls closes
 
 pub returns-clause-kept : goal.returns-clause-kept
 returns-clause-kept g c =

@@ -1,5 +1,4 @@
 use Rattle.std.proofs.Common.{refl}
-use Rattle.daide_sockets.proofs.UnpolledLemmas.{none}
 use Rattle.daide_sockets.proofs.system.SocketsSystemSocketPortsConnection.accept.Goals as goal
 
 pub returns-then-not-is_due-clause-kept : goal.returns-then-not-is_due-clause-kept
@@ -13,7 +12,7 @@ returns-then-not-is_due-clause-transition g c = rw c.await_bots.ensures (λ held
   refl,
   (
     record { places = refl; bounded = c.is_bounded.ensures },
-    (none g.N.Network.transition _ _ refl, λ other lt ne. record { reports = λ side. refl; deadline = refl }),
+    λ other lt ne. record { reports = λ side. refl; deadline = refl },
   ),
   (
     (refl, refl),

@@ -8,7 +8,8 @@ use Rattle.daide_sockets.proofs.ConnectLemmas.{connected_joins, connected_report
 use Rattle.daide_sockets.proofs.KeptRowLemmas.{changes_none, connect_beside, connect_bot, connect_holds, connect_kept, connect_others}
 use Rattle.daide_sockets.proofs.KeptRowLemmas.{failed_beside, failed_holds, failed_others, failed_places, rested_holds, rested_places, same_deadlines}
 use Rattle.daide_sockets.proofs.PairingLemmas.{put_back, there_again, unchanged_pending}
-use Rattle.daide_sockets.proofs.UnpolledLemmas.{both, none, tries_unpolled}
+use Rattle.daide_sockets.proofs.NetworkCallLemmas.{both, none, tries}
+use Rattle.daide_sockets.specs.Wakeups.{is_of_connect}
 use Rattle.daide_sockets.proofs.system.SocketsSystemSocketPortsConnection.connected.Goals as goal
 
 pub returns-in_default-clause-transition : goal.returns-in_default-clause-transition
@@ -19,7 +20,7 @@ returns-in_default-clause-transition g c =
       (unchanged_pending c.args.self.now.arrivals.items c.args.place, refl, refl),
       (
         record { places = refl; bounded = rw c.take_arrival.ensures.same at c.is_bounded.ensures },
-        (none g.N.Network.transition _ _ refl, λ other lt ne. record { reports = λ side. refl; deadline = refl }, refl),
+        (none g.N.Network.transition is_of_connect _ _ refl, λ other lt ne. record { reports = λ side. refl; deadline = refl }, refl),
       ),
       (((refl, refl), refl), rests_unchanged c.args.self.now.arrivals.items c.args.self.now.poller.table c.args.place nothing.0),
       refl,
@@ -67,7 +68,7 @@ returns-then-advances-clause-transition g c =
     let lt = c.in-Some.ensures.rows.0 in
     let key = key_fits c.args.place _ c.server_key.result Server c.server_key.ensures c.in-Some.ensures.rows.1 in
     let table = rw c.take_arrival.ensures.same at c.advances.ensures.table in
-    let tries = rw c.take_arrival.ensures.same at c.advances.ensures.tries in
+    let tried = rw c.take_arrival.ensures.same at c.advances.ensures.tries in
     let early = rw c.take_arrival.ensures.same at (c.advances.ensures.late c.if-advances.true) in
     rw (c.put_arrival.ensures.same, c.take_arrival.ensures.same) (λ held. (
       rested_holds _ _ c.args.place _ _ c.rest.ensures (connect_holds _ _ c.args.place _ _ lt key table held),
@@ -83,7 +84,7 @@ returns-then-advances-clause-transition g c =
           bounded = rw c.put_arrival.ensures.same at c.is_bounded-then-advances.ensures;
         },
         (
-          tries_unpolled g.N.Network.transition _ _ _ _ _ tries,
+          tries g.N.Network.transition _ _ _ _ _ tried,
           connect_others _ _ _ c.args.place _ _ key table c.rest.ensures,
           ap (λ (t : Table). report_at t (key_of c.args.place Bot)) c.rest.ensures
               ∙ connect_bot _ _ c.args.place _ key table,
@@ -110,7 +111,7 @@ returns-in-Ok-clause-transition g c =
     let lt = c.in-Some.ensures.rows.0 in
     let key = key_fits c.args.place _ c.server_key.result Server c.server_key.ensures c.in-Some.ensures.rows.1 in
     let table = rw c.take_arrival.ensures.same at c.advances.ensures.table in
-    let tries = rw c.take_arrival.ensures.same at c.advances.ensures.tries in
+    let tried = rw c.take_arrival.ensures.same at c.advances.ensures.tries in
     let reported = rw (c.take_arrival.ensures.same, key) at (c.advances.ensures.reported c.if-advances.false) in
     let reading = c.now-now.ensures ∙ ap (λ (t : Table). t.reading) table.same in
     let begins = rw (reading, c.take_arrival.ensures.same) at c.in-Ok.ensures.begins in
@@ -125,7 +126,7 @@ returns-in-Ok-clause-transition g c =
           bounded = rw c.log_server.ensures at c.is_bounded-in-Ok.ensures;
         },
         (
-          tries_unpolled g.N.Network.transition _ _ _ _ _ tries,
+          tries g.N.Network.transition _ _ _ _ _ tried,
           connect_kept _ _ c.args.place _ key table,
           (
             connect_bot _ _ c.args.place _ key table,
@@ -147,7 +148,7 @@ returns-in-Err-clause-transition g c =
     let lt = c.in-Some.ensures.rows.0 in
     let key = key_fits c.args.place _ c.server_key.result Server c.server_key.ensures c.in-Some.ensures.rows.1 in
     let table = rw c.take_arrival.ensures.same at c.advances.ensures.table in
-    let tries = rw c.take_arrival.ensures.same at c.advances.ensures.tries in
+    let tried = rw c.take_arrival.ensures.same at c.advances.ensures.tries in
     let bot = c.in-Err.ensures.unreached.1 ∙ c.advances.ensures.goes_on.bot in
     let reading = ap (λ (t : Table). t.reading) table.same in
     let closes = rw (bot, reading, c.take_arrival.ensures.same) at c.let_go-in-Err.ensures.closes in
@@ -161,7 +162,7 @@ returns-in-Err-clause-transition g c =
           bounded = c.is_bounded-in-Err.ensures;
         },
         (
-          both g.N.Network.transition _ _ _ (tries_unpolled g.N.Network.transition _ _ _ _ _ tries)
+          both g.N.Network.transition is_of_connect _ _ _ (tries g.N.Network.transition _ _ _ _ _ tried)
               c.let_go-in-Err.ensures.calls,
           failed_others old mid _ c.args.place _ _ _ lt key table rows held,
           tt,
@@ -181,10 +182,10 @@ returns-in-Err-clause-leaves g c = λ failed.
 pub returns-in-Err-clause-unreached : goal.returns-in-Err-clause-unreached
 returns-in-Err-clause-unreached g c = λ failed off.
     let all = rw c.take_arrival.ensures.same at c.advances.ensures.all in
-    let tries = rw c.take_arrival.ensures.same at c.advances.ensures.tries in
+    let tried = rw c.take_arrival.ensures.same at c.advances.ensures.tries in
     rw (c.let_go-in-Err.ensures.same, c.take_arrival.ensures.same) (
       c.in-Some.arrival,
       c.advances.new.poller.network,
       c.in-Some.ensures.some,
-      unreached g.N.Network.transition _ _ _ _ _ _ _ (λ early. all early c.in-Err.ensures.unreached.2) tries,
+      unreached g.N.Network.transition _ _ _ _ _ _ _ (λ early. all early c.in-Err.ensures.unreached.2) tried,
     )

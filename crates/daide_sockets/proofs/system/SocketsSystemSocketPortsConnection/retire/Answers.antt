@@ -1,6 +1,7 @@
 use Rattle.std.proofs.Common.{refl}
 use Rattle.daide_sockets.proofs.KeptRowLemmas.{retire_beside, retire_holds, retire_others, retire_places}
-use Rattle.daide_sockets.proofs.UnpolledLemmas.{both, follows_unpolled}
+use Rattle.daide_sockets.proofs.NetworkCallLemmas.{both, follows}
+use Rattle.daide_sockets.specs.Wakeups.{is_follow}
 use Rattle.daide_sockets.proofs.system.SocketsSystemSocketPortsConnection.retire.Goals as goal
 
 pub returns-clause-transition : goal.returns-clause-transition
@@ -14,8 +15,9 @@ returns-clause-transition g c =
       (
         record { places = retire_places _ _ c.args.place _ _ rows held; bounded = c.is_bounded.ensures },
         (
-          both g.N.Network.transition _ _ _ (follows_unpolled g.N.Network.transition _ _ _ calls.1)
-              (follows_unpolled g.N.Network.transition _ _ _ calls.2),
+          both g.N.Network.transition is_follow _ _ _
+              (follows g.N.Network.transition is_follow (λ before key is_followed after. refl) _ _ _ calls.1)
+              (follows g.N.Network.transition is_follow (λ before key is_followed after. refl) _ _ _ calls.2),
           retire_others _ _ c.args.place _ _ rows held,
         ),
       ),
