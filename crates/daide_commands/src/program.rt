@@ -62,8 +62,7 @@ fn carry_out<R: AllocGlobal + Files + Clock + Net, I: Source, O: Sink, E: Write>
     ensures bounded { IfOk result (λ status. status ≤ NOT_RELAYED) }
     ensures ended { IfOk result (OrderEnds (HasFailed I.Fails) (WasRefused ⟦<Global as Memory>⟧.Refuses)
         (AreSettingsRefused ⟦<Global as Memory>⟧.Refuses ⟦<Global as SettingsMemory>⟧.Refuses) (HasFailed O.Fails)
-        order.entry (I.remaining input.old) (I.remaining input.new) (O.contents output.old)
-        (O.contents output.new)) }
+        order.entry (I.remaining input.old) (I.remaining input.new) (O.contents output.old) (O.contents output.new)) }
 {
     match order {
         Order::Show(order) => run_show(rt.alloc(), rt, order, input, output, errors),
@@ -110,15 +109,15 @@ fn carry_out<R: AllocGlobal + Files + Clock + Net, I: Source, O: Sink, E: Write>
 /// `answered`: what the program does, its status and its output are those of the order that the words give
 /// (`OrderEnds`). For `show`, `check` and `frame` the order says what they write of standard input. `settings` returns 0
 /// only for a standard input that `read_settings` accepts, `run` only if it wrote that it listens, and `status` only if
-/// it printed an answer. In `show`, `frame` and `settings` a failed read or write is a fault only if it failed. Words that
-/// are not understood return 2 and write nothing to the output. Help and version return 0 or 1, and refused memory returns
-/// 1 (`UsageEnds`).
+/// it printed an answer. A failed write ends `show`, `frame` and `settings` only if a write failed, and a failed read of
+/// standard input `show` and `frame` only if a read failed. Words that are not understood return 2 and write nothing to
+/// the output. Help and version return 0 or 1, and refused memory returns 1 (`UsageEnds`).
 ///
 /// Premise: no word begins with a hyphen and a digit. With such a word `frame` takes negative numbers, and `clap`'s
 /// contracts say nothing of that; then the program ends as some order does.
 ///
-/// Not said: the texts of help, usage and faults; what a file has; that memory was refused, which `run_show`, `run_frame`
-/// and `run_settings` say of any memory.
+/// Not said: the texts of help, usage and faults; what a file has; that memory was refused, which `run_show`,
+/// `run_frame` and `run_settings` say of any memory.
 pub fn answer<R: AllocGlobal + Files + Clock + Net, S: AsStr, I: Source, O: Sink, E: Write>(
     rt: &R,
     words: &[S],

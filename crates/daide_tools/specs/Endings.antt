@@ -60,7 +60,8 @@ IsShowAnswer asked input old new (Err fault) =
     IfSome input (λ bytes. shown.IsFaultAt asked bytes fault) × (fault ≢ show_faults.Write → Keeps old new)
 
 -- the status is that of a result for this input, whose fault has its cause
-abbrev pub ShowEnds : (ShowFault → Type 0) → ShowRequest → Option (List ℕ) → Option (List ℕ) → Option (List ℕ) → ℕ → Type 0
+abbrev pub ShowEnds : (ShowFault → Type 0) → ShowRequest → Option (List ℕ) → Option (List ℕ) → Option (List ℕ) → ℕ →
+    Type 0
 ShowEnds IsCause asked input old new status =
     (answer : Result Bool ShowFault) × IsShowAnswer asked input old new answer × IfErr answer IsCause
     × (status ≡ show_status answer)
@@ -105,7 +106,8 @@ IsFrameAnswer added input old new (Ok done) = Writes added input old new
 IsFrameAnswer added input old new (Err fault) = WritesUpTo added input old new fault
 
 -- the status is that of a result for these lines, whose fault has its cause
-abbrev pub FrameEnds : (TextFault → Type 0) → List Named → Option (List ℕ) → Option (List ℕ) → Option (List ℕ) → ℕ → Type 0
+abbrev pub FrameEnds : (TextFault → Type 0) → List Named → Option (List ℕ) → Option (List ℕ) → Option (List ℕ) → ℕ →
+    Type 0
 FrameEnds IsCause added input old new status =
     (answer : Result (Unit {0}) TextFault) × IsFrameAnswer added input old new answer × IfErr answer IsCause
     × (status ≡ frame_status answer)
@@ -147,7 +149,8 @@ SettingsEnds refused write tried known status = (answer : Result (Option Setting
 -- writes nothing to the output, and a file's log is any log. `read`, `refused` and `write` say that a read failed, that
 -- memory was refused and that a write failed.
 
-abbrev pub ShowRuns : Type 0 → Type 0 → Type 0 → ShowOrder → Option (List ℕ) → Option (List ℕ) → Option (List ℕ) → ℕ → Type 0
+abbrev pub ShowRuns : Type 0 → Type 0 → Type 0 → ShowOrder → Option (List ℕ) → Option (List ℕ) → Option (List ℕ) → ℕ →
+    Type 0
 ShowRuns read refused write order known old new status =
     ((order.words ≢ None) × (status ≡ 1) × Keeps old new)
     ⊎ ((words : List Word) × (order.words ≡ None → words ≡ [])
@@ -170,7 +173,8 @@ abbrev pub read_by : Option (List (List ℕ)) → Type 0 → Type 0
 read_by None read = read
 read_by (Some words) read = ⊤
 
-abbrev pub FrameRuns : Type 0 → Type 0 → Type 0 → FrameOrder → Option (List ℕ) → Option (List ℕ) → Option (List ℕ) → ℕ → Type 0
+abbrev pub FrameRuns : Type 0 → Type 0 → Type 0 → FrameOrder → Option (List ℕ) → Option (List ℕ) → Option (List ℕ) → ℕ →
+    Type 0
 FrameRuns read refused write order known old new status =
     ((order.words ≢ None) × (status ≡ 1) × Keeps old new)
     ⊎ ((words : List Word) × (order.words ≡ None → words ≡ [])
