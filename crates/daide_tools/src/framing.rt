@@ -81,8 +81,8 @@ fn line_of<A: Growth>(alloc: A, words: &[&str]) -> Result<Vec<u8, A>, AllocError
 
 /// Writes the frames of messages, with the words of the settings at a path. The settings are read before the input.
 ///
-/// `framed`: unless those settings have no words, the status is that of the result of `write_frames`, whose faults have
-/// their causes.
+/// `framed`: if the settings are read, the status is that of the result of `write_frames`, or 1 if memory was refused
+/// before it, and each fault has its cause.
 ///
 /// Not said: that no read of the arguments fails.
 pub fn run_frame<A: Growth + Copy, R: AllocGlobal + Files, I: Source, O: Sink, E: Write>(

@@ -119,8 +119,8 @@ fn show_words<A: Growth + Copy, O: Sink, E: Write>(
 
 /// Shows a frame, with the words of the settings at a path. The settings are read before the input.
 ///
-/// `shown`: unless those settings have no words, the status is that of the result of `show_input` or of a fault before
-/// it, and each fault has its cause.
+/// `shown`: if the settings are read, the status is that of the result of `show_input` or of a fault before it, and each
+/// fault has its cause.
 pub fn run_show<A: Growth + Copy, R: AllocGlobal + Files, I: Source, O: Sink, E: Write>(
     alloc: A,
     rt: &R,
