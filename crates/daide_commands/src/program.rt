@@ -109,9 +109,9 @@ fn carry_out<R: AllocGlobal + Files + Clock + Net, I: Source, O: Sink, E: Write>
 /// `answered`: what the program does, its status and its output are those of the order that the words give
 /// (`OrderEnds`). For `show`, `check` and `frame` the order says what they write of standard input. `settings` returns 0
 /// only for a standard input that `read_settings` accepts, `run` only if it wrote that it listens, and `status` only if
-/// it printed an answer. A failed write ends `show`, `frame` and `settings` only if a write failed, and a failed read of
-/// standard input `show` and `frame` only if a read failed. Words that are not understood return 2 and write nothing to
-/// the output. Help and version return 0 or 1, and refused memory returns 1 (`UsageEnds`).
+/// it printed an answer. A failed write ends `show`, `frame` and `settings` without `--try` only if a write failed, and a
+/// failed read of standard input `show` and `frame` only if a read failed. Words that are not understood return 2 and
+/// write nothing to the output. Help and version return 0 or 1, and refused memory returns 1 (`UsageEnds`).
 ///
 /// Premise: no word begins with a hyphen and a digit. With such a word `frame` takes negative numbers, and `clap`'s
 /// contracts say nothing of that; then the program ends as some order does.

@@ -198,9 +198,9 @@ fn judge_read<A: SettingsMemory, R: AllocGlobal + Files + Clock + Net, I: Read, 
 /// about the contents of a file, or about what passes.
 ///
 /// `judged`: for standard input, the status is that of the judgement. Settings that were read are a fault only if they
-/// have one, if memory was refused, or if a write failed.
+/// have one, if memory was refused, if a write failed, or if their trial fails.
 ///
-/// Not said: why an input cannot be read.
+/// Not said: why an input cannot be read, or why a trial fails.
 pub fn run_settings<
     A: SettingsMemory,
     R: AllocGlobal + Files + Clock + Net,
