@@ -15,23 +15,28 @@ use Rattle.daide_tools.specs.Endings.{ShowRuns, CheckRuns, FrameRuns, SettingsRu
 -- ---- an order
 
 -- The end of an order, by the bytes of standard input and by the rest of them that is unread. No clause knows the contents
--- of a file or the results of the operating system.
--- `failed` says that a write of the output failed
-abbrev pub OrderEnds : Type 0 → Order → Option (List ℕ) → Option (List ℕ) → Option (List ℕ) → Option (List ℕ) → ℕ →
-    Type 0
-OrderEnds failed (Show order) known rest old new status = ShowRuns order known old new status
-OrderEnds failed (Check order) known rest old new status = CheckRuns order known rest old new status
-OrderEnds failed (Transcript order) known rest old new status = status ≤ 1
-OrderEnds failed (Frame order) known rest old new status = FrameRuns order known old new status
-OrderEnds failed (Settings order) known rest old new status = SettingsRuns order known status
-OrderEnds failed (Run order) known rest old new status = (status ≤ 1) × (status ≡ 0 → Announces failed old new)
-OrderEnds failed BadSide known rest old new status = (status ≡ 2) × (new ≡ old)
-OrderEnds failed BadLevel known rest old new status = (status ≡ 2) × (new ≡ old)
-OrderEnds failed (Status order) known rest old new status = (status ≤ 1) × (status ≡ 0 → IsAnswerPrinted old new)
-OrderEnds failed (Stop order) known rest old new status = (status ≤ 1) × (new ≡ old)
-OrderEnds failed BadFormat known rest old new status = (status ≡ 2) × (new ≡ old)
-OrderEnds failed BadMessageFormat known rest old new status = (status ≡ 2) × (new ≡ old)
-OrderEnds failed BadTimeout known rest old new status = (status ≡ 2) × (new ≡ old)
+-- of a file or the results of the operating system. `read` and `write` say that a read of standard input or a write of the
+-- output failed, `refused` and `unsettled` that memory was refused, the latter for settings.
+abbrev pub OrderEnds : Type 0 → Type 0 → Type 0 → Type 0 → Order → Option (List ℕ) → Option (List ℕ) → Option (List ℕ) →
+    Option (List ℕ) → ℕ → Type 0
+OrderEnds read refused unsettled write (Show order) known rest old new status =
+    ShowRuns read refused write order known old new status
+OrderEnds read refused unsettled write (Check order) known rest old new status = CheckRuns order known rest old new status
+OrderEnds read refused unsettled write (Transcript order) known rest old new status = status ≤ 1
+OrderEnds read refused unsettled write (Frame order) known rest old new status =
+    FrameRuns read refused write order known old new status
+OrderEnds read refused unsettled write (Settings order) known rest old new status =
+    SettingsRuns unsettled write order known status
+OrderEnds read refused unsettled write (Run order) known rest old new status =
+    (status ≤ 1) × (status ≡ 0 → Announces write old new)
+OrderEnds read refused unsettled write BadSide known rest old new status = (status ≡ 2) × (new ≡ old)
+OrderEnds read refused unsettled write BadLevel known rest old new status = (status ≡ 2) × (new ≡ old)
+OrderEnds read refused unsettled write (Status order) known rest old new status =
+    (status ≤ 1) × (status ≡ 0 → IsAnswerPrinted old new)
+OrderEnds read refused unsettled write (Stop order) known rest old new status = (status ≤ 1) × (new ≡ old)
+OrderEnds read refused unsettled write BadFormat known rest old new status = (status ≡ 2) × (new ≡ old)
+OrderEnds read refused unsettled write BadMessageFormat known rest old new status = (status ≡ 2) × (new ≡ old)
+OrderEnds read refused unsettled write BadTimeout known rest old new status = (status ≡ 2) × (new ≡ old)
 
 -- ---- arguments that give no order
 
@@ -45,13 +50,16 @@ pub record UsageEnds (why : ErrorKind) (old new : Option (List ℕ)) (status : �
 -- ---- the arguments
 
 -- the end of the program: that of the order for this parse, or a usage error, which reads nothing of standard input
-abbrev pub GivenEnds : Type 0 → Result (Option (Text × List Row)) ErrorKind → Option (List ℕ) → Option (List ℕ) →
-    Option (List ℕ) → Option (List ℕ) → ℕ → Type 0
-GivenEnds failed (Ok asked) known rest old new status =
-    (order : Order) × IsOrderOf asked order × OrderEnds failed order known rest old new status
-GivenEnds failed (Err why) known rest old new status = (rest ≡ known) × UsageEnds why old new status
+abbrev pub GivenEnds : Type 0 → Type 0 → Type 0 → Type 0 → Result (Option (Text × List Row)) ErrorKind →
+    Option (List ℕ) → Option (List ℕ) → Option (List ℕ) → Option (List ℕ) → ℕ → Type 0
+GivenEnds read refused unsettled write (Ok asked) known rest old new status =
+    (order : Order) × IsOrderOf asked order × OrderEnds read refused unsettled write order known rest old new status
+GivenEnds read refused unsettled write (Err why) known rest old new status =
+    (rest ≡ known) × UsageEnds why old new status
 
--- the status and the output are those of the order for the arguments; `failed` says that a write of the output failed
-abbrev pub CommandEnds : Type 0 → List Text → Option (List ℕ) → Option (List ℕ) → Option (List ℕ) → Option (List ℕ) → ℕ → Type 0
-CommandEnds failed words known rest old new status = (given : Result (Option (Text × List Row)) ErrorKind)
-    × ParsesTo words given × GivenEnds failed given known rest old new status
+-- the status and the output are those of the order for the arguments, by what happened outside
+abbrev pub CommandEnds : Type 0 → Type 0 → Type 0 → Type 0 → List Text → Option (List ℕ) → Option (List ℕ) →
+    Option (List ℕ) → Option (List ℕ) → ℕ → Type 0
+CommandEnds read refused unsettled write words known rest old new status =
+    (given : Result (Option (Text × List Row)) ErrorKind) × ParsesTo words given
+    × GivenEnds read refused unsettled write given known rest old new status

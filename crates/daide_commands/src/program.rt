@@ -2,14 +2,17 @@
 
 ghost use Rattle.std.specs.Prelude.{◌≡◌, ◌≤◌, IfOk, map};
 ghost use Rattle.clap.specs.Values.{kind_of};
-ghost use Rattle.daide_log.specs.Recording.{HasFailed};
+ghost use Rattle.daide_causes.specs.Causes.{HasFailed, WasRefused};
+ghost use Rattle.daide_tools.specs.Endings.{AreSettingsRefused};
 ghost use Rattle.daide_commands.specs.Answers.{CommandEnds, OrderEnds, UsageEnds};
 
 use crate::run_order::run;
 use clap::error::{Error, ErrorKind};
+use daide_causes::{Sink, Source};
 use daide_command_line::arguments::{Order, order_of, parse};
 use daide_command_line::hints::{suggest, usage_hint};
-use daide_log::Sink;
+use daide_frame::Memory;
+use daide_settings::SettingsMemory;
 use daide_tools::checking::run_check;
 use daide_tools::controlling::{run_status, run_stop};
 use daide_tools::faults::{CLEAN, FAULT, NOT_RELAYED, USAGE, print_fault};
@@ -17,9 +20,10 @@ use daide_tools::framing::run_frame;
 use daide_tools::judging::run_settings;
 use daide_tools::showing::run_show;
 use daide_tools::transcribing::run_transcript;
+use std::alloc::Global;
 use std::convert::AsStr;
 use std::io;
-use std::io::{Read, Write};
+use std::io::Write;
 use std::net::Net;
 use std::rt::{Clock, Files};
 
@@ -48,7 +52,7 @@ fn report_usage<S: AsStr, O: Write, E: Write>(
 }
 
 /// Carries out an order. Returns the status.
-fn carry_out<R: AllocGlobal + Files + Clock + Net, I: Read, O: Sink, E: Write>(
+fn carry_out<R: AllocGlobal + Files + Clock + Net, I: Source, O: Sink, E: Write>(
     rt: &R,
     order: Order<'_, '_>,
     input: &mut I,
@@ -56,15 +60,16 @@ fn carry_out<R: AllocGlobal + Files + Clock + Net, I: Read, O: Sink, E: Write>(
     errors: &mut E,
 ) -> io::Result<u8>
     ensures bounded { IfOk result (λ status. status ≤ NOT_RELAYED) }
-    ensures ended { IfOk result (OrderEnds (HasFailed O.Fails) order.entry (I.remaining input.old) (I.remaining input.new)
-        (O.contents output.old) (O.contents output.new)) }
+    ensures ended { IfOk result (OrderEnds (HasFailed I.Fails) (WasRefused ⟦<Global as Memory>⟧.Refuses)
+        (AreSettingsRefused ⟦<Global as Memory>⟧.Refuses ⟦<Global as SettingsMemory>⟧.Refuses) (HasFailed O.Fails)
+        order.entry (I.remaining input.old) (I.remaining input.new) (O.contents output.old) (O.contents output.new)) }
 {
     match order {
-        Order::Show(order) => run_show(rt, order, input, output, errors),
+        Order::Show(order) => run_show(rt.alloc(), rt, order, input, output, errors),
         Order::Check(order) => run_check(rt, order, input, output, errors),
         Order::Transcript(order) => run_transcript(rt, order, input, output, errors),
-        Order::Frame(order) => run_frame(rt, order, input, output, errors),
-        Order::Settings(order) => run_settings(rt, order, input, output, errors),
+        Order::Frame(order) => run_frame(rt.alloc(), rt, order, input, output, errors),
+        Order::Settings(order) => run_settings(rt.alloc(), rt, order, input, output, errors),
         Order::Run(order) => run(rt, order, output, errors),
         Order::BadSide => print_fault(errors, "bad side; it must be bot or server", USAGE),
         Order::BadLevel => {
@@ -104,14 +109,16 @@ fn carry_out<R: AllocGlobal + Files + Clock + Net, I: Read, O: Sink, E: Write>(
 /// `answered`: what the program does, its status and its output are those of the order that the words give
 /// (`OrderEnds`). For `show`, `check` and `frame` the order says what they write of standard input. `settings` returns 0
 /// only for a standard input that `read_settings` accepts, `run` only if it wrote that it listens, and `status` only if
-/// it printed an answer. Words that are not understood return 2 and write nothing to the output. Help and version return
-/// 0 or 1, and refused memory returns 1 (`UsageEnds`).
+/// it printed an answer. A failed write ends `show`, `frame` and `settings` without `--try` only if a write failed, and a
+/// failed read of standard input `show` and `frame` only if a read failed. Words that are not understood return 2 and
+/// write nothing to the output. Help and version return 0 or 1, and refused memory returns 1 (`UsageEnds`).
 ///
 /// Premise: no word begins with a hyphen and a digit. With such a word `frame` takes negative numbers, and `clap`'s
 /// contracts say nothing of that; then the program ends as some order does.
 ///
-/// Not said: the texts of help, usage and faults; what a file has.
-pub fn answer<R: AllocGlobal + Files + Clock + Net, S: AsStr, I: Read, O: Sink, E: Write>(
+/// Not said: the texts of help, usage and faults; what a file has; that memory was refused, which `run_show`,
+/// `run_frame` and `run_settings` say of any memory.
+pub fn answer<R: AllocGlobal + Files + Clock + Net, S: AsStr, I: Source, O: Sink, E: Write>(
     rt: &R,
     words: &[S],
     input: &mut I,
@@ -119,8 +126,10 @@ pub fn answer<R: AllocGlobal + Files + Clock + Net, S: AsStr, I: Read, O: Sink, 
     errors: &mut E,
 ) -> io::Result<u8>
     ensures bounded { IfOk result (λ status. status ≤ NOT_RELAYED) }
-    ensures answered { IfOk result (CommandEnds (HasFailed O.Fails) (map S.text words.now) (I.remaining input.old)
-        (I.remaining input.new) (O.contents output.old) (O.contents output.new)) }
+    ensures answered { IfOk result (CommandEnds (HasFailed I.Fails) (WasRefused ⟦<Global as Memory>⟧.Refuses)
+        (AreSettingsRefused ⟦<Global as Memory>⟧.Refuses ⟦<Global as SettingsMemory>⟧.Refuses) (HasFailed O.Fails)
+        (map S.text words.now) (I.remaining input.old) (I.remaining input.new) (O.contents output.old)
+        (O.contents output.new)) }
 {
     match parse(rt.alloc(), words) {
         Ok(matches) => carry_out(rt, order_of(&matches), input, output, errors),

@@ -3,14 +3,15 @@ use Rattle.std.proofs.Common.{◌≡◌, ◌⊎◌, ◌<◌, ℕ, true, ltb, lt-
 use Rattle.std.specs.Io.KnownBytes.{Keeps, Appends}
 use Rattle.daide_token.specs.Names.{Named}
 use Rattle.daide_show.specs.Input.{limit}
-use Rattle.daide_show.specs.Shown.{ShowRequest, IsShownAs, IsFaultAt}
+use Rattle.daide_show.specs.Shown.{ShowRequest, IsShowCause, IsShownAs, IsFaultAt}
 use Rattle.daide_show.specs.declared.frame_view.ShowFault.{ShowFault}
 use Rattle.daide_show.specs.declared.frame_view.ShowFault.TheVariants as show_faults
 use Rattle.daide_text.specs.Frames.{text_lines, AreLinesOf}
+use Rattle.daide_text.specs.declared.frames.TextFault.{TextFault}
 use Rattle.daide_text.specs.declared.frames.TextFault.TheVariants as text_faults
 use Rattle.daide_tools.specs.Endings.{ShowEnds, FrameEnds}
 
-keeps_same : (known : Option (List ℕ)) → Keeps known known
+pub keeps_same : (known : Option (List ℕ)) → Keeps known known
 keeps_same None = tt
 keeps_same (Some bytes) = refl
 
@@ -42,15 +43,26 @@ reading_fault asked input show_faults.Memory long one = of_any _ input (λ bytes
 reading_fault asked input show_faults.Write long one = absurd (grind (arith, one))
 
 -- before the frame is shown, a fault ends the program with status 1, and leaves the output unchanged
-pub show_refused : (asked : ShowRequest) (input old : Option (List ℕ)) (fault : ShowFault) (status : ℕ) →
-    IfSome input (λ bytes. IsFaultAt asked bytes fault) → status ≡ 1 → ShowEnds asked input old old status
-show_refused asked input old fault status h e = (Err fault, (h, λ other. keeps_same old), e)
+pub show_refused : (IsCause : ShowFault → Type 0) (asked : ShowRequest) (input old : Option (List ℕ)) (fault : ShowFault)
+    (status : ℕ) → IfSome input (λ bytes. IsFaultAt asked bytes fault) → IsCause fault → status ≡ 1 →
+    ShowEnds IsCause asked input old old status
+show_refused IsCause asked input old fault status h cause e = (Err fault, (h, λ other. keeps_same old), cause, e)
 
 -- the same for refused memory, which is independent of the input
-pub show_without_memory : (asked : ShowRequest) (input old : Option (List ℕ)) (status : ℕ) → status ≡ 1 →
-    ShowEnds asked input old old status
-show_without_memory asked input old status e =
-    show_refused asked input old show_faults.Memory status (of_any _ input (λ bytes. tt)) e
+pub show_without_memory : (IsCause : ShowFault → Type 0) (asked : ShowRequest) (input old : Option (List ℕ)) (status : ℕ) →
+    IsCause show_faults.Memory → status ≡ 1 → ShowEnds IsCause asked input old old status
+show_without_memory IsCause asked input old status cause e =
+    show_refused IsCause asked input old show_faults.Memory status (of_any _ input (λ bytes. tt)) cause e
+
+-- a cause of a part is one of the whole
+pub show_cause_of : {read read' write write' : Type 0} (refused : Type 0) → (read → read') → (write → write') →
+    (fault : ShowFault) → IsShowCause read refused write fault → IsShowCause read' refused write' fault
+show_cause_of refused on_read on_write show_faults.Read h = on_read h
+show_cause_of refused on_read on_write show_faults.TooLong h = tt
+show_cause_of refused on_read on_write show_faults.NotHex h = tt
+show_cause_of refused on_read on_write show_faults.NotOneFrame h = tt
+show_cause_of refused on_read on_write show_faults.Memory h = h
+show_cause_of refused on_read on_write show_faults.Write h = on_write h
 
 -- an input has lines, whether it is known or not
 some_lines : (known : Option (List ℕ)) → (lines : List (List ℕ)) × AreLinesOf known lines
@@ -58,8 +70,8 @@ some_lines None = ([], tt)
 some_lines (Some text) = (text_lines text, refl)
 
 -- if memory is refused before a line is read, no frame is written
-pub frame_without_memory : (added : List Named) (input old : Option (List ℕ)) (status : ℕ) → status ≡ 1 →
-    FrameEnds added input old old status
-frame_without_memory added input old status e =
+pub frame_without_memory : (IsCause : TextFault → Type 0) (added : List Named) (input old : Option (List ℕ)) (status : ℕ) →
+    IsCause text_faults.Memory → status ≡ 1 → FrameEnds IsCause added input old old status
+frame_without_memory IsCause added input old status cause e =
     let lines = some_lines input in
-    (Err text_faults.Memory, ([], lines.0, lines.1, tt, [], refl, λ other. appends_nothing old), e)
+    (Err text_faults.Memory, ([], lines.0, lines.1, tt, [], refl, λ other. appends_nothing old), cause, e)

@@ -1,8 +1,8 @@
 -- The end of `show`, `check`, `frame` and `settings`: the exit status by the result of their libraries, and the output.
 -- (own)
-use Rattle.std.specs.Prelude.{◌≡◌, ◌≢◌, ◌≤◌, ◌⊎◌, ℕ, ◌==◌, ◌&&◌, Bool, true, false, if◌then◌else◌, codes}
+use Rattle.std.specs.Prelude.{◌≡◌, ◌≢◌, ◌≤◌, ◌⊎◌, ⊤, ℕ, ◌==◌, ◌&&◌, Bool, true, false, if◌then◌else◌, codes}
 use Rattle.std.specs.Prelude.{List, [], ◌∷◌, ◌++◌, map, Option, Some, None, IfSome, option_map, Result, Ok, Err}
-use Rattle.std.specs.Prelude.{IfOk, is_ok}
+use Rattle.std.specs.Prelude.{IfOk, IfErr, is_ok}
 use Rattle.std.specs.List.{join_with_byte}
 use Rattle.std.specs.Option.{is_some}
 use Rattle.std.specs.Io.KnownBytes.{Keeps}
@@ -21,16 +21,19 @@ use Rattle.daide_show.specs.Shown.{ShowRequest, Shows}
 use Rattle.daide_show.specs.Shown as shown
 use Rattle.daide_show.specs.declared.frame_view.ShowFault.{ShowFault}
 use Rattle.daide_show.specs.declared.frame_view.ShowFault.TheVariants as show_faults
-use Rattle.daide_text.specs.Frames.{Writes, WritesUpTo}
+use Rattle.daide_text.specs.Frames.{IsTextCause, Writes, WritesUpTo}
 use Rattle.daide_text.specs.declared.frames.TextFault.{TextFault}
 use Rattle.daide_command_line.specs.declared.arguments.ShowOrder.{ShowOrder}
 use Rattle.daide_command_line.specs.declared.arguments.CheckOrder.{CheckOrder}
 use Rattle.daide_command_line.specs.declared.arguments.FrameOrder.{FrameOrder}
 use Rattle.daide_command_line.specs.declared.arguments.SettingsOrder.{SettingsOrder}
 use Rattle.toml.specs.Parse.{parse_document}
+use Rattle.daide_settings.specs.Causes.{IsJudgeCause, IsMemoryRefused, IsSettingsCause}
 use Rattle.daide_settings.specs.declared.settings.Settings.{Settings}
+use Rattle.daide_settings.specs.declared.settings.SettingsError.TheVariants as settings_errors
 use Rattle.daide_settings.specs.Settings.{judged_settings}
 use Rattle.daide_tools.specs.declared.judging.SettingsFault.{SettingsFault}
+use Rattle.daide_tools.specs.declared.judging.SettingsFault.TheVariants as settings_faults
 
 -- the arguments as one text, if there are any, with a space between each two; otherwise the bytes of standard input
 abbrev pub given_by : Option (List (List ℕ)) → Option (List ℕ) → Option (List ℕ)
@@ -56,10 +59,12 @@ IsShowAnswer asked input old new (Ok relayed) = IfSome input (λ bytes. Shows as
 IsShowAnswer asked input old new (Err fault) =
     IfSome input (λ bytes. shown.IsFaultAt asked bytes fault) × (fault ≢ show_faults.Write → Keeps old new)
 
--- the status is that of a result for this input
-abbrev pub ShowEnds : ShowRequest → Option (List ℕ) → Option (List ℕ) → Option (List ℕ) → ℕ → Type 0
-ShowEnds asked input old new status =
-    (answer : Result Bool ShowFault) × IsShowAnswer asked input old new answer × (status ≡ show_status answer)
+-- the status is that of a result for this input, whose fault has its cause
+abbrev pub ShowEnds : (ShowFault → Type 0) → ShowRequest → Option (List ℕ) → Option (List ℕ) → Option (List ℕ) → ℕ →
+    Type 0
+ShowEnds IsCause asked input old new status =
+    (answer : Result Bool ShowFault) × IsShowAnswer asked input old new answer × IfErr answer IsCause
+    × (status ≡ show_status answer)
 
 -- ---- `check`
 
@@ -100,9 +105,12 @@ abbrev pub IsFrameAnswer : List Named → Option (List ℕ) → Option (List ℕ
 IsFrameAnswer added input old new (Ok done) = Writes added input old new
 IsFrameAnswer added input old new (Err fault) = WritesUpTo added input old new fault
 
-abbrev pub FrameEnds : List Named → Option (List ℕ) → Option (List ℕ) → Option (List ℕ) → ℕ → Type 0
-FrameEnds added input old new status =
-    (answer : Result (Unit {0}) TextFault) × IsFrameAnswer added input old new answer × (status ≡ frame_status answer)
+-- the status is that of a result for these lines, whose fault has its cause
+abbrev pub FrameEnds : (TextFault → Type 0) → List Named → Option (List ℕ) → Option (List ℕ) → Option (List ℕ) → ℕ →
+    Type 0
+FrameEnds IsCause added input old new status =
+    (answer : Result (Unit {0}) TextFault) × IsFrameAnswer added input old new answer × IfErr answer IsCause
+    × (status ≡ frame_status answer)
 
 -- ---- `settings`
 
@@ -118,24 +126,37 @@ IsSettingsStatus (Err fault) tried status = status ≡ 1
 abbrev pub IsJudgement : List ℕ → Bool → Type 0
 IsJudgement text good = good ≡ is_ok (judged_settings (parse_document text))
 
--- the status is that of a judgement, which is the one of a known text
-abbrev pub SettingsEnds : Bool → Option (List ℕ) → ℕ → Type 0
-SettingsEnds tried known status = (answer : Result (Option Settings) SettingsFault)
+-- memory was refused, for the report or for the settings of a text
+abbrev pub AreSettingsRefused : (ℕ → Type 0) → (List ℕ → Type 0) → Type 0
+AreSettingsRefused Refuses RefusesText =
+    IsMemoryRefused Refuses RefusesText ⊎ ((text : List ℕ) × IsSettingsCause RefusesText text settings_errors.Memory)
+
+-- what happened outside, if a fault says so; of a file that cannot be read no clause does
+abbrev pub IsSettingsFaultCause : Type 0 → Type 0 → SettingsFault → Type 0
+IsSettingsFaultCause refused write (settings_faults.Text fault) = ⊤
+IsSettingsFaultCause refused write (settings_faults.Judge fault) = IsJudgeCause refused write fault
+
+-- the status is that of a judgement, which is the one of a known text, and whose fault has its cause
+abbrev pub SettingsEnds : Type 0 → Type 0 → Bool → Option (List ℕ) → ℕ → Type 0
+SettingsEnds refused write tried known status = (answer : Result (Option Settings) SettingsFault)
     × IfOk answer (λ settings. IfSome known (λ text. IsJudgement text (is_some settings)))
-    × IsSettingsStatus answer tried status
+    × IfErr answer (IsSettingsFaultCause refused write) × IsSettingsStatus answer tried status
 
 -- ---- an order
 
 -- The same for an order, by the bytes of standard input and by the rest of them that is unread. No clause knows the
--- contents of a file or the results of the operating system. So the words of settings are any words, and a file's log
--- is any log.
+-- contents of a file or the results of the operating system. So the words of settings are any words or a fault, which
+-- writes nothing to the output, and a file's log is any log. `read`, `refused` and `write` say that a read failed, that
+-- memory was refused and that a write failed.
 
-abbrev pub ShowRuns : ShowOrder → Option (List ℕ) → Option (List ℕ) → Option (List ℕ) → ℕ → Type 0
-ShowRuns order known old new status =
-    (words : List Word) × (order.words ≡ None → words ≡ [])
-    × ShowEnds
+abbrev pub ShowRuns : Type 0 → Type 0 → Type 0 → ShowOrder → Option (List ℕ) → Option (List ℕ) → Option (List ℕ) → ℕ →
+    Type 0
+ShowRuns read refused write order known old new status =
+    ((order.words ≢ None) × (status ≡ 1) × Keeps old new)
+    ⊎ ((words : List Word) × (order.words ≡ None → words ≡ [])
+    × ShowEnds (shown.IsShowCause read refused write)
     (record { words = words; side = order.side; level = order.level; explained = order.is_explained })
-    (given_by (option_map (λ typed. map (λ word. word.now) typed.now) order.typed) known) old new status
+    (given_by (option_map (λ typed. map (λ word. word.now) typed.now) order.typed) known) old new status)
 
 -- the logs are standard input alone
 abbrev pub IsStandardInput : Option (List (List ℕ)) → Type 0
@@ -147,11 +168,21 @@ CheckRuns order known rest old new status =
     IsStandardInput (option_map (λ files. map (λ file. file.now) files.now) order.files) →
     ReportEnds order.is_explained known rest old new status
 
-abbrev pub FrameRuns : FrameOrder → Option (List ℕ) → Option (List ℕ) → Option (List ℕ) → ℕ → Type 0
-FrameRuns order known old new status =
-    (words : List Word) × (order.words ≡ None → words ≡ [])
-    × FrameEnds (names_of words)
-    (lines_by (option_map (λ typed. map (λ word. word.now) typed.now) order.typed) known) old new status
+-- of the arguments, which are read too, no clause says that a read failed
+abbrev pub read_by : Option (List (List ℕ)) → Type 0 → Type 0
+read_by None read = read
+read_by (Some words) read = ⊤
 
-abbrev pub SettingsRuns : SettingsOrder → Option (List ℕ) → ℕ → Type 0
-SettingsRuns order known status = order.path.now ≡ codes "-" → SettingsEnds order.is_tried known status
+abbrev pub FrameRuns : Type 0 → Type 0 → Type 0 → FrameOrder → Option (List ℕ) → Option (List ℕ) → Option (List ℕ) → ℕ →
+    Type 0
+FrameRuns read refused write order known old new status =
+    ((order.words ≢ None) × (status ≡ 1) × Keeps old new)
+    ⊎ ((words : List Word) × (order.words ≡ None → words ≡ [])
+    × FrameEnds
+    (IsTextCause (read_by (option_map (λ typed. map (λ word. word.now) typed.now) order.typed) read) refused write)
+    (names_of words)
+    (lines_by (option_map (λ typed. map (λ word. word.now) typed.now) order.typed) known) old new status)
+
+abbrev pub SettingsRuns : Type 0 → Type 0 → SettingsOrder → Option (List ℕ) → ℕ → Type 0
+SettingsRuns refused write order known status =
+    order.path.now ≡ codes "-" → SettingsEnds refused write order.is_tried known status

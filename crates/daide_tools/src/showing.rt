@@ -2,18 +2,20 @@
 
 ghost use Rattle.std.specs.Prelude.{◌≡◌, ◌≤◌, Some, map, IfOk};
 ghost use Rattle.std.specs.List.{join_with_byte};
-ghost use Rattle.daide_show.specs.Shown.{request_of};
+ghost use Rattle.daide_causes.specs.Causes.{HasFailed, WasRefused};
+ghost use Rattle.daide_show.specs.Shown.{IsShowCause, request_of};
 ghost use Rattle.daide_tools.specs.Endings.{show_status, ShowEnds, ShowRuns};
 
 use crate::faults::{CLEAN, FAULT, NOT_RELAYED, print_fault};
 use crate::settings_file::words_at;
 use crate::typed::joined;
+use daide_causes::{Growth, Sink, Source};
 use daide_command_line::arguments::ShowOrder;
 use daide_command_line::hints::{Hint, hint_of, suggest};
 use daide_show::{Request, ShowFault, input_note, odd_group, read_input, show_input};
 use std::alloc::Allocator;
 use std::io;
-use std::io::{Read, Write};
+use std::io::Write;
 use std::rt::Files;
 
 /// Writes why an input is not one frame in digits. A failure to write it has no effect.
@@ -74,15 +76,15 @@ fn end_show<A: Allocator + Copy, E: Write>(
 }
 
 /// Shows the frame in a reader.
-fn show_read<A: Allocator + Copy, I: Read, O: Write, E: Write>(
+fn show_read<A: Growth + Copy, I: Source, O: Sink, E: Write>(
     alloc: A,
     request: &Request<'_>,
     input: &mut I,
     output: &mut O,
     errors: &mut E,
 ) -> io::Result<u8>
-    ensures { IfOk result (ShowEnds (request_of request.now) (I.remaining input.old)
-        (O.contents output.old) (O.contents output.new)) }
+    ensures { IfOk result (ShowEnds (IsShowCause (HasFailed I.Fails) (WasRefused A.Refuses) (HasFailed O.Fails))
+        (request_of request.now) (I.remaining input.old) (O.contents output.old) (O.contents output.new)) }
 {
     let text = match read_input(alloc, input) {
         Ok(text) => text,
@@ -93,21 +95,21 @@ fn show_read<A: Allocator + Copy, I: Read, O: Write, E: Write>(
 }
 
 /// Shows the frame in the arguments, and suggests another command for arguments of another form.
-fn show_words<A: Allocator + Copy, O: Write, E: Write>(
+fn show_words<A: Growth + Copy, O: Sink, E: Write>(
     alloc: A,
     request: &Request<'_>,
     words: &[&str],
     output: &mut O,
     errors: &mut E,
 ) -> io::Result<u8>
-    ensures { IfOk result (ShowEnds (request_of request.now) (Some (join_with_byte 32 (map (λ word. word.now) words.now)))
-        (O.contents output.old) (O.contents output.new)) }
+    ensures { IfOk result (ShowEnds (IsShowCause ⊥ (WasRefused A.Refuses) (HasFailed O.Fails)) (request_of request.now)
+        (Some (join_with_byte 32 (map (λ word. word.now) words.now))) (O.contents output.old) (O.contents output.new)) }
 {
     let Ok(text) = joined(alloc, words) else {
         return print_fault(errors, ShowFault::Memory, FAULT);
     };
-    let mut input = text.as_slice();
-    let status = show_read(alloc, request, &mut input, output, errors)?;
+    let answer = show_input(alloc, request, text.as_slice(), output);
+    let status = end_show(alloc, answer, request.is_explained, text.as_slice(), errors)?;
     if status == FAULT {
         let hint = words.first().and_then(|word| hint_of(word));
         suggest(hint.filter(|hint| !matches!(hint, Hint::Show)), errors);
@@ -116,7 +118,11 @@ fn show_words<A: Allocator + Copy, O: Write, E: Write>(
 }
 
 /// Shows a frame, with the words of the settings at a path. The settings are read before the input.
-pub fn run_show<R: AllocGlobal + Files, I: Read, O: Write, E: Write>(
+///
+/// `shown`: if the settings are read, the status is that of the result of `show_input` or of a fault before it, and each
+/// fault has its cause.
+pub fn run_show<A: Growth + Copy, R: AllocGlobal + Files, I: Source, O: Sink, E: Write>(
+    alloc: A,
     rt: &R,
     order: ShowOrder<'_, '_>,
     input: &mut I,
@@ -124,8 +130,8 @@ pub fn run_show<R: AllocGlobal + Files, I: Read, O: Write, E: Write>(
     errors: &mut E,
 ) -> io::Result<u8>
     ensures bounded { IfOk result (λ status. status ≤ NOT_RELAYED) }
-    ensures shown { IfOk result (ShowRuns order.entry (I.remaining input.old)
-        (O.contents output.old) (O.contents output.new)) }
+    ensures shown { IfOk result (ShowRuns (HasFailed I.Fails) (WasRefused A.Refuses) (HasFailed O.Fails) order.entry
+        (I.remaining input.old) (O.contents output.old) (O.contents output.new)) }
 {
     let words = match words_at(rt, order.words) {
         Ok(words) => words,
@@ -138,7 +144,7 @@ pub fn run_show<R: AllocGlobal + Files, I: Read, O: Write, E: Write>(
         is_explained: order.is_explained,
     };
     match order.typed {
-        Some(typed) => show_words(rt.alloc(), &request, typed, output, errors),
-        None => show_read(rt.alloc(), &request, input, output, errors),
+        Some(typed) => show_words(alloc, &request, typed, output, errors),
+        None => show_read(alloc, &request, input, output, errors),
     }
 }

@@ -28,7 +28,7 @@ impl Address {
     /// Creates an address by copying the text.
     pub(super) fn new<A: SettingsMemory>(alloc: A, text: &str) -> Result<Address, AllocError>
         ensures copied { IfOk result (λ address. address ≡ text.now) }
-        ensures refused { OnErr result (A.Refuses text.now) }
+        ensures refused { OnErr result (A.SettingsMemory.Refuses text.now) }
     {
         Ok(Address {
             text: alloc.copy(text)?,

@@ -22,7 +22,7 @@ impl ControlPath {
     /// Creates a path by copying the text.
     fn new<A: SettingsMemory>(alloc: A, text: &str) -> Result<ControlPath, AllocError>
         ensures copied { IfOk result (λ path. path ≡ text.now) }
-        ensures refused { OnErr result (A.Refuses text.now) }
+        ensures refused { OnErr result (A.SettingsMemory.Refuses text.now) }
     {
         Ok(ControlPath {
             text: alloc.copy(text)?,
@@ -35,7 +35,7 @@ impl ControlPath {
         text: Option<&str>,
     ) -> Result<Option<ControlPath>, AllocError>
         ensures copied { IfOk result (λ path. path ≡ option_map (λ text. text.now) text.entry) }
-        ensures refused { OnErr result (IsSomeAnd (option_map (λ text. text.now) text.entry) A.Refuses) }
+        ensures refused { OnErr result (IsSomeAnd (option_map (λ text. text.now) text.entry) A.SettingsMemory.Refuses) }
     {
         match text {
             Some(text) => Ok(Some(ControlPath::new(alloc, text)?)),

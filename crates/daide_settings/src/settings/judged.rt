@@ -4,12 +4,13 @@
 //! written, are found by a scan of the text (`written`). The report is made in memory, and written whole.
 
 ghost use Rattle.std.specs.Prelude.{◌≡◌, ◌++◌, ℕ, List, None, [], Some, Ok, false, true, is_ok, map, option_map};
-ghost use Rattle.std.specs.Prelude.{IfOk, IfErr, OnOk, string_bytes};
+ghost use Rattle.std.specs.Prelude.{IfOk, IfErr, OnOk, OnErr, string_bytes};
 ghost use Rattle.std.specs.Io.KnownBytes.{Appends};
 ghost use Rattle.toml.specs.Data.{get_member};
 ghost use Rattle.toml.specs.Parse.{parse_document};
-ghost use Rattle.toml.specs.Text.{IsValueText};
 ghost use Rattle.toml.specs.View.{table_view, view};
+ghost use Rattle.daide_causes.specs.Causes.{HasFailed, WasRefused};
+ghost use Rattle.daide_settings.specs.Causes.{IsJudgeCause, IsMemoryRefused};
 ghost use Rattle.daide_settings.specs.Settings.{judged_settings, key_text};
 ghost use Rattle.daide_settings.specs.Judged.{fault_at, is_right, is_right_document, keys_are_right};
 ghost use Rattle.daide_settings.specs.Report.{AreFaultLines, AreParts, AreUnknownLines, AreValueLines, IsDocumentReport};
@@ -21,16 +22,18 @@ ghost use Rattle.daide_settings.specs.Report.{unset_line};
 use super::SettingsError;
 use super::allow::ranges_fault;
 use super::key::{Key, is_known};
+use super::memory::SettingsMemory;
 use super::parts::{Field, ValuePart, faulty_part, part_value};
 use super::reading::{address_fault, flag_fault, found, has_only_known, number_fault, text_fault};
 use super::suggestion::nearest_key;
 use super::words::words_fault;
 use super::written::{Spot, spot_of};
-use std::alloc::{AllocError, Global};
-use std::fmt::{Display, Formatter};
-use std::io::{ErrorKind, Write};
-use std::{fmt, io};
+use daide_causes::{Growth, Sink};
+use std::alloc::AllocError;
+use std::fmt;
+use std::fmt::Formatter;
 use thiserror::Error;
+use toml::de::Error as TomlError;
 use toml::{Table, Value};
 
 /// Why a text could not be judged.
@@ -224,14 +227,23 @@ fn place_of(text: &str, spot: Option<Spot<'_>>) -> LineNumber {
 }
 
 /// Writes the line of an unknown key, with the known key that it resembles.
-fn write_unknown(alloc: Global, text: &str, key: &str, report: &mut Vec<u8>) -> io::Result<()>
-    ensures { OnOk result ((line : List ℕ) × IsUnknownLine key.now line
+fn write_unknown<A: SettingsMemory>(
+    alloc: A,
+    text: &str,
+    key: &str,
+    report: &mut Vec<u8, A>,
+) -> Result<(), AllocError>
+    ensures written { OnOk result ((line : List ℕ) × IsUnknownLine key.now line
         × (report.new.items ≡ report.old.items ++ line)) }
+    ensures refused { OnErr result (WasRefused A.Memory.Refuses) }
 {
     let place = place_of(text, spot_of(text, key, ValuePart::Whole));
     let known = nearest_key(alloc, key)?;
     let likeness = Likeness { known };
-    writeln!(report, "{place}unknown key \"{key}\"{likeness}")
+    A::append_text(
+        report,
+        format_args_nl!("{place}unknown key \"{key}\"{likeness}"),
+    )
 }
 
 /// Returns the number of bytes of a text before a key; those of the whole text if the key is not found.
@@ -243,27 +255,29 @@ fn offset_of(text: &str, key: &str) -> usize {
 }
 
 /// Returns the unknown keys of a document.
-fn unknown_keys<'a>(alloc: Global, table: &'a Table) -> Result<Vec<&'a str>, AllocError>
-    ensures { IfOk result (λ unknown. map (λ key. key.now) unknown.items ≡ unknown_keys (table_view table.now)) }
+fn unknown_keys<'a, A: Growth>(alloc: A, table: &'a Table) -> Result<Vec<&'a str, A>, AllocError>
+    ensures keys { IfOk result (λ unknown. map (λ key. key.now) unknown.items ≡ unknown_keys (table_view table.now)) }
+    ensures refused { OnErr result (WasRefused A.Refuses) }
 {
     let mut unknown = Vec::new(alloc);
     for key in table.keys() {
         if !is_known(key.as_str()) {
-            unknown.push(key.as_str())?;
+            A::append(&mut unknown, &[key.as_str()])?;
         }
     }
     Ok(unknown)
 }
 
 /// Writes the lines of unknown keys, in their order.
-fn write_unknown_lines(
-    alloc: Global,
+fn write_unknown_lines<A: SettingsMemory>(
+    alloc: A,
     text: &str,
     keys: &[&str],
-    report: &mut Vec<u8>,
-) -> io::Result<()>
-    ensures { OnOk result ((lines : List ℕ) × AreParts IsUnknownLine (map (λ key. key.now) keys.now) lines
+    report: &mut Vec<u8, A>,
+) -> Result<(), AllocError>
+    ensures written { OnOk result ((lines : List ℕ) × AreParts IsUnknownLine (map (λ key. key.now) keys.now) lines
         × (report.new.items ≡ report.old.items ++ lines)) }
+    ensures refused { OnErr result (WasRefused A.Memory.Refuses) }
 {
     let mut rest = keys;
     while let [key, others @ ..] = rest {
@@ -274,52 +288,48 @@ fn write_unknown_lines(
 }
 
 /// Writes the lines of the unknown keys of a document, in the order of the text.
-fn write_all_unknown(
-    alloc: Global,
+fn write_all_unknown<A: SettingsMemory>(
+    alloc: A,
     table: &Table,
     text: &str,
-    report: &mut Vec<u8>,
-) -> io::Result<()>
-    ensures { OnOk result ((lines : List ℕ) × AreUnknownLines (table_view table.now) lines
+    report: &mut Vec<u8, A>,
+) -> Result<(), AllocError>
+    ensures written { OnOk result ((lines : List ℕ) × AreUnknownLines (table_view table.now) lines
         × (report.new.items ≡ report.old.items ++ lines)) }
+    ensures refused { OnErr result (WasRefused A.Memory.Refuses) }
 {
     let mut unknown = unknown_keys(alloc, table)?;
-    unknown.sort_by_key(|key| offset_of(text, key))?;
+    unknown.sort_unstable_by_key(|key| offset_of(text, key));
     write_unknown_lines(alloc, text, unknown.as_slice(), report)
 }
 
-/// Returns a value as TOML.
-fn value_text(alloc: Global, value: &Value) -> Result<String, AllocError>
-    ensures { IfOk result (λ text. IsValueText false (view value.now) (string_bytes text)) }
-{
-    let mut f = Formatter::new(String::with_capacity(alloc, 32)?);
-    match value.fmt(&mut f) {
-        Ok(()) => Ok(f.into_inner()),
-        Err(_) => Err(AllocError),
-    }
-}
-
 /// Returns true if a text reads as a value that TOML prints as this other text.
-fn reads_as(alloc: Global, written: &str, printed: &str) -> Result<bool, AllocError>
-    ensures { result ≡ Ok true → ReadsAs written.now printed.now }
+fn reads_as<A: SettingsMemory>(alloc: A, written: &str, printed: &str) -> Result<bool, AllocError>
+    ensures same { result ≡ Ok true → ReadsAs written.now printed.now }
+    ensures refused { OnErr result (IsMemoryRefused A.Memory.Refuses A.SettingsMemory.Refuses) }
 {
-    match Value::from_str(alloc, written) {
-        Ok(value) => Ok(value_text(alloc, &value)?.as_str() == printed),
+    match alloc.value(written) {
+        Ok(value) => Ok(alloc.value_text(&value)?.as_str() == printed),
         Err(error) if error.is_memory() => Err(AllocError),
         Err(_) => Ok(false),
     }
 }
 
 /// Returns a value as it is written, if it is found and is in one line; else as TOML.
-fn shown_value(alloc: Global, spot: Option<Spot<'_>>, value: &Value) -> Result<String, AllocError>
-    ensures { IfOk result (λ text. IsShownValue (view value.now) (string_bytes text)) }
+fn shown_value<A: SettingsMemory>(
+    alloc: A,
+    spot: Option<Spot<'_>>,
+    value: &Value,
+) -> Result<String, AllocError>
+    ensures text { IfOk result (λ text. IsShownValue (view value.now) (string_bytes text)) }
+    ensures refused { OnErr result (IsMemoryRefused A.Memory.Refuses A.SettingsMemory.Refuses) }
 {
-    let printed = value_text(alloc, value)?;
+    let printed = alloc.value_text(value)?;
     let Some(written) = spot.and_then(|spot| spot.value_in_line()) else {
         return Ok(printed);
     };
     if reads_as(alloc, written, printed.as_str())? {
-        String::from_str(alloc, written)
+        alloc.copy(written)
     } else {
         Ok(printed)
     }
@@ -340,41 +350,46 @@ fn failing_text(fault: SettingsError) -> &'static str
 }
 
 /// Writes a fault: its line, the key with the entry and the field, the value of that, and what it must be.
-fn write_fault(
-    alloc: Global,
+fn write_fault<A: SettingsMemory>(
+    alloc: A,
     text: &str,
     finding: Finding,
     value: Option<&Value>,
-    report: &mut Vec<u8>,
-) -> io::Result<()>
-    ensures { OnOk result ((line : List ℕ)
+    report: &mut Vec<u8, A>,
+) -> Result<(), AllocError>
+    ensures written { OnOk result ((line : List ℕ)
         × IsFaultLine finding.key finding.part finding.fault (option_map (λ value. view value.now) value.entry) line
         × (report.new.items ≡ report.old.items ++ line)) }
+    ensures refused { OnErr result (IsMemoryRefused A.Memory.Refuses A.SettingsMemory.Refuses) }
 {
     let range = finding.must_be();
     let Some(value) = value else {
-        return writeln!(report, "missing {finding}; it must be {range}");
+        return A::append_text(
+            report,
+            format_args_nl!("missing {finding}; it must be {range}"),
+        );
     };
     let spot = spot_of(text, finding.key.text(), finding.part);
     let place = place_of(text, spot);
     let shown = shown_value(alloc, spot, value)?;
     let failing = failing_text(finding.fault);
-    writeln!(
+    A::append_text(
         report,
-        "{place}{finding} = {shown}{failing}; it must be {range}"
+        format_args_nl!("{place}{finding} = {shown}{failing}; it must be {range}"),
     )
 }
 
 /// Writes the fault of a key, if it has one.
-fn write_fault_of(
-    alloc: Global,
+fn write_fault_of<A: SettingsMemory>(
+    alloc: A,
     table: &Table,
     text: &str,
     key: Key,
-    report: &mut Vec<u8>,
-) -> io::Result<()>
-    ensures { OnOk result ((part : List ℕ) × IsFaultPart key (fault_at key (table_view table.now))
+    report: &mut Vec<u8, A>,
+) -> Result<(), AllocError>
+    ensures written { OnOk result ((part : List ℕ) × IsFaultPart key (fault_at key (table_view table.now))
         (get_member (key_text key) (table_view table.now)) part × (report.new.items ≡ report.old.items ++ part)) }
+    ensures refused { OnErr result (IsMemoryRefused A.Memory.Refuses A.SettingsMemory.Refuses) }
 {
     let Some(fault) = fault_at(table, key) else {
         return Ok(());
@@ -386,15 +401,16 @@ fn write_fault_of(
 }
 
 /// Writes the faults of some keys, in their order.
-fn write_key_faults(
-    alloc: Global,
+fn write_key_faults<A: SettingsMemory>(
+    alloc: A,
     table: &Table,
     text: &str,
     keys: &[Key],
-    report: &mut Vec<u8>,
-) -> io::Result<()>
-    ensures { OnOk result ((faults : List ℕ) × AreFaultLines (table_view table.now) keys.now faults
+    report: &mut Vec<u8, A>,
+) -> Result<(), AllocError>
+    ensures written { OnOk result ((faults : List ℕ) × AreFaultLines (table_view table.now) keys.now faults
         × (report.new.items ≡ report.old.items ++ faults)) }
+    ensures refused { OnErr result (IsMemoryRefused A.Memory.Refuses A.SettingsMemory.Refuses) }
 {
     let mut rest = keys;
     while let [key, others @ ..] = rest {
@@ -405,9 +421,15 @@ fn write_key_faults(
 }
 
 /// Writes all faults of a document: the unknown keys, and then each key's in the order of `Key`.
-fn write_faults(alloc: Global, table: &Table, text: &str, report: &mut Vec<u8>) -> io::Result<()>
-    ensures { OnOk result ((lines : List ℕ) × IsDocumentReport false (table_view table.now) lines
+fn write_faults<A: SettingsMemory>(
+    alloc: A,
+    table: &Table,
+    text: &str,
+    report: &mut Vec<u8, A>,
+) -> Result<(), AllocError>
+    ensures written { OnOk result ((lines : List ℕ) × IsDocumentReport false (table_view table.now) lines
         × (report.new.items ≡ report.old.items ++ lines)) }
+    ensures refused { OnErr result (IsMemoryRefused A.Memory.Refuses A.SettingsMemory.Refuses) }
 {
     write_all_unknown(alloc, table, text, report)?;
     write_key_faults(alloc, table, text, &Key::ALL, report)
@@ -439,31 +461,44 @@ fn unset_line(key: Key) -> &'static str
 }
 
 /// Writes the line of a key that is not set.
-fn write_default(key: Key, report: &mut Vec<u8>) -> io::Result<()>
-    ensures { OnOk result (report.new.items ≡ report.old.items ++ default_line key) }
+fn write_default<A: Growth>(key: Key, report: &mut Vec<u8, A>) -> Result<(), AllocError>
+    ensures written { OnOk result (report.new.items ≡ report.old.items ++ default_line key) }
+    ensures refused { OnErr result (WasRefused A.Refuses) }
 {
     match key.default_number() {
-        Some(number) => writeln!(report, "{key} = {number} # default"),
-        None => report.write_all(unset_line(key).as_bytes()),
+        Some(number) => A::append_text(report, format_args_nl!("{key} = {number} # default")),
+        None => A::append(report, unset_line(key).as_bytes()),
     }
 }
 
 /// Writes the value of a key as TOML, or the line of one that is not set.
-fn write_value_of(alloc: Global, table: &Table, key: Key, report: &mut Vec<u8>) -> io::Result<()>
-    ensures { OnOk result ((line : List ℕ) × IsValueLine key (get_member (key_text key) (table_view table.now)) line
+fn write_value_of<A: SettingsMemory>(
+    alloc: A,
+    table: &Table,
+    key: Key,
+    report: &mut Vec<u8, A>,
+) -> Result<(), AllocError>
+    ensures written { OnOk result ((line : List ℕ) × IsValueLine key (get_member (key_text key) (table_view table.now)) line
         × (report.new.items ≡ report.old.items ++ line)) }
+    ensures refused { OnErr result (WasRefused A.Memory.Refuses) }
 {
     let Some(value) = found(table, key) else {
         return write_default(key, report);
     };
-    let shown = value_text(alloc, value)?;
-    writeln!(report, "{key} = {shown}")
+    let shown = alloc.value_text(value)?;
+    A::append_text(report, format_args_nl!("{key} = {shown}"))
 }
 
 /// Writes the values of some keys, in their order.
-fn write_values(alloc: Global, table: &Table, keys: &[Key], report: &mut Vec<u8>) -> io::Result<()>
-    ensures { OnOk result ((lines : List ℕ) × AreValueLines (table_view table.now) keys.now lines
+fn write_values<A: SettingsMemory>(
+    alloc: A,
+    table: &Table,
+    keys: &[Key],
+    report: &mut Vec<u8, A>,
+) -> Result<(), AllocError>
+    ensures written { OnOk result ((lines : List ℕ) × AreValueLines (table_view table.now) keys.now lines
         × (report.new.items ≡ report.old.items ++ lines)) }
+    ensures refused { OnErr result (WasRefused A.Memory.Refuses) }
 {
     let mut rest = keys;
     while let [key, others @ ..] = rest {
@@ -474,11 +509,17 @@ fn write_values(alloc: Global, table: &Table, keys: &[Key], report: &mut Vec<u8>
 }
 
 /// Writes the faults of a document, or its values if it has none. Returns true if it has none.
-fn judge_table(alloc: Global, table: &Table, text: &str, report: &mut Vec<u8>) -> io::Result<bool>
+fn judge_table<A: SettingsMemory>(
+    alloc: A,
+    table: &Table,
+    text: &str,
+    report: &mut Vec<u8, A>,
+) -> Result<bool, AllocError>
     ensures judged { IfOk result (λ good. good ≡ is_right (table_view table.now)) }
     ensures written { IfOk result (λ good. (lines : List ℕ)
         × IsDocumentReport (is_right (table_view table.now)) (table_view table.now) lines
         × (report.new.items ≡ report.old.items ++ lines)) }
+    ensures refused { OnErr result (IsMemoryRefused A.Memory.Refuses A.SettingsMemory.Refuses) }
 {
     if is_right(table) {
         write_values(alloc, table, &Key::ALL, report)?;
@@ -498,9 +539,14 @@ fn last_line(front: &str) -> usize {
 }
 
 /// Writes that a text is no TOML document, with the line and the reason.
-fn write_no_document(text: &str, error: &toml::de::Error, report: &mut Vec<u8>) -> io::Result<()>
-    ensures { OnOk result ((lines : List ℕ) × IsSettingsReport None lines
+fn write_no_document<A: Growth>(
+    text: &str,
+    error: &TomlError,
+    report: &mut Vec<u8, A>,
+) -> Result<(), AllocError>
+    ensures written { OnOk result ((lines : List ℕ) × IsSettingsReport None lines
         × (report.new.items ≡ report.old.items ++ lines)) }
+    ensures refused { OnErr result (WasRefused A.Refuses) }
 {
     let front = match error.span() {
         Some(span) => text.get(..span.start).unwrap_or(""),
@@ -508,18 +554,26 @@ fn write_no_document(text: &str, error: &toml::de::Error, report: &mut Vec<u8>) 
     };
     let line = last_line(front);
     let why = error.message();
-    writeln!(report, "line {line}: settings are not TOML: {why}")
+    A::append_text(
+        report,
+        format_args_nl!("line {line}: settings are not TOML: {why}"),
+    )
 }
 
 /// Judges a text as a document, and writes its report.
-fn write_report(alloc: Global, text: &str, report: &mut Vec<u8>) -> io::Result<bool>
+fn write_report<A: SettingsMemory>(
+    alloc: A,
+    text: &str,
+    report: &mut Vec<u8, A>,
+) -> Result<bool, AllocError>
     ensures judged { IfOk result (λ good. good ≡ is_right_document (parse_document text.now)) }
     ensures written { IfOk result (λ good. (lines : List ℕ) × IsSettingsReport (parse_document text.now) lines
         × (report.new.items ≡ report.old.items ++ lines)) }
+    ensures refused { OnErr result (IsMemoryRefused A.Memory.Refuses A.SettingsMemory.Refuses) }
 {
-    match toml::table_from_str(alloc, text) {
+    match alloc.document(text) {
         Ok(table) => judge_table(alloc, &table, text, report),
-        Err(error) if error.is_memory() => Err(ErrorKind::OutOfMemory.into()),
+        Err(error) if error.is_memory() => Err(AllocError),
         Err(error) => {
             write_no_document(text, &error, report)?;
             Ok(false)
@@ -539,10 +593,12 @@ fn write_report(alloc: Global, text: &str, report: &mut Vec<u8>) -> io::Result<b
 ///
 /// `kept`: after `Memory` the output is unchanged.
 ///
+/// `caused`: `Memory` and `Write` are returned only if memory was refused or a write failed.
+///
 /// Not said: the number of a line, the order of the unknown keys, the known key that an unknown one resembles, the reason
-/// why a text is no document; nor that a failed write or refused memory is the reason for an error.
-pub fn judge_settings<O: Write>(
-    alloc: Global,
+/// why a text is no document.
+pub fn judge_settings<A: SettingsMemory, O: Sink>(
+    alloc: A,
     text: &str,
     output: &mut O,
 ) -> Result<bool, JudgeFault>
@@ -550,12 +606,13 @@ pub fn judge_settings<O: Write>(
     ensures written { IfOk result (λ good. (report : List ℕ) × IsSettingsReport (parse_document text.now) report
         × Appends (O.contents output.old) (O.contents output.new) report) }
     ensures kept { IfErr result (λ fault. fault ≡ JudgeFault.Memory → output.new ≡ output.old) }
+    ensures caused { IfErr result (IsJudgeCause (IsMemoryRefused A.Memory.Refuses A.SettingsMemory.Refuses) (HasFailed O.Fails)) }
 {
     let mut report = Vec::new(alloc);
     let Ok(good) = write_report(alloc, text, &mut report) else {
         return Err(JudgeFault::Memory);
     };
-    match output.write_all(report.as_slice()) {
+    match output.write_whole(report.as_slice()) {
         Ok(()) => Ok(good),
         Err(_) => Err(JudgeFault::Write),
     }

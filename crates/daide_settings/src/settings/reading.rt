@@ -1,6 +1,6 @@
 //! Reads the settings of a document.
 
-ghost use Rattle.std.specs.Prelude.{◌≡◌, ◌≢◌, ◌⊎◌, true, IfOk, IfErr, IsSomeAnd, OnErr, MatchResult, Ok, Err, option_map, string_bytes};
+ghost use Rattle.std.specs.Prelude.{◌≡◌, ◌≢◌, ◌⊎◌, ◌<◌, ◌^◌, ℕ, true, IfOk, IfErr, IsSomeAnd, OnErr, MatchResult, Ok, Err, option_map, string_bytes};
 ghost use Rattle.std.specs.Result.{result_err};
 ghost use Rattle.std.specs.List.{list_all};
 ghost use Rattle.std.specs.BTreeMap.{keys};
@@ -92,6 +92,29 @@ fn number_at(table: &Table, key: Key) -> Result<u64, SettingsError>
     }
 }
 
+/// Returns the number of a key whose range is within 16 bits, as `number_at` does.
+fn u16_at(table: &Table, key: Key) -> Result<u16, SettingsError>
+    requires { (n : ℕ) → is_in_range key n ≡ true → n < 2 ^ 16 }
+    ensures judged { result ≡ judged_number key (get_member (key_text key) (table_view table.now)) }
+    ensures within { IfOk result (λ n. is_in_range key n ≡ true) }
+{
+    match u16::try_from(number_at(table, key)?) {
+        Ok(number) => Ok(number),
+        Err(_) => Err(SettingsError::Range(key)),
+    }
+}
+
+/// Returns the number of a key whose range is within 32 bits, as `number_at` does.
+fn u32_at(table: &Table, key: Key) -> Result<u32, SettingsError>
+    requires { (n : ℕ) → is_in_range key n ≡ true → n < 2 ^ 32 }
+    ensures { result ≡ judged_number key (get_member (key_text key) (table_view table.now)) }
+{
+    match u32::try_from(number_at(table, key)?) {
+        Ok(number) => Ok(number),
+        Err(_) => Err(SettingsError::Range(key)),
+    }
+}
+
 /// Returns the flag of a key; false if the document does not have it. Fails with `WrongType`.
 fn flag_at(table: &Table, key: Key) -> Result<bool, SettingsError>
     ensures { result ≡ read_flag key (get_member (key_text key) (table_view table.now)) }
@@ -163,9 +186,9 @@ fn config_at(table: &Table) -> Result<Config, SettingsError>
     ensures right { IfOk result (λ config. config_fault config ≡ Ok tt) }
 {
     Ok(Config {
-        top_level: number_at(table, Key::TopLevel)? as u16,
-        max_body: number_at(table, Key::MaxBody)? as u16,
-        max_depth: number_at(table, Key::MaxDepth)? as u16,
+        top_level: u16_at(table, Key::TopLevel)?,
+        max_body: u16_at(table, Key::MaxBody)?,
+        max_depth: u16_at(table, Key::MaxDepth)?,
     })
 }
 
@@ -175,11 +198,11 @@ fn run_limits_at(table: &Table) -> Result<RunLimits, SettingsError>
     ensures some { IfOk result (λ limits. IsSessionCount limits.max_sessions) }
 {
     Ok(RunLimits {
-        im_seconds: number_at(table, Key::ImSeconds)? as u32,
-        max_sessions: number_at(table, Key::MaxSessions)? as usize,
-        sessions: number_at(table, Key::Sessions)? as u32,
+        im_seconds: u32_at(table, Key::ImSeconds)?,
+        max_sessions: usize::from(u16_at(table, Key::MaxSessions)?),
+        sessions: u32_at(table, Key::Sessions)?,
         turns: number_at(table, Key::Turns)?,
-        idle_seconds: number_at(table, Key::IdleSeconds)? as u32,
+        idle_seconds: u32_at(table, Key::IdleSeconds)?,
     })
 }
 
@@ -195,8 +218,8 @@ fn copies_of<A: SettingsMemory>(
 ) -> Result<Copies, AllocError>
     ensures copied { IfOk result (λ copies. (copies.0 ≡ listen.now) × (copies.1 ≡ server.now)
         × (copies.2 ≡ option_map (λ text. text.now) control.entry)) }
-    ensures refused { OnErr result (A.Refuses listen.now
-        ⊎ (A.Refuses server.now ⊎ IsSomeAnd (option_map (λ text. text.now) control.entry) A.Refuses)) }
+    ensures refused { OnErr result (A.SettingsMemory.Refuses listen.now
+        ⊎ (A.SettingsMemory.Refuses server.now ⊎ IsSomeAnd (option_map (λ text. text.now) control.entry) A.SettingsMemory.Refuses)) }
 {
     let listen = Address::new(alloc, listen)?;
     let server = Address::new(alloc, server)?;
@@ -207,7 +230,7 @@ fn copies_of<A: SettingsMemory>(
 /// Reads the settings of a document.
 fn settings_of<A: SettingsMemory>(alloc: A, table: &Table) -> Result<Settings, SettingsError>
     ensures judged { IfOk result (λ settings. judged_members (table_view table.now) ≡ Ok (given_of settings)) }
-    ensures refused { IfErr result (IsFaultBy A.Refuses (judged_members (table_view table.now))) }
+    ensures refused { IfErr result (IsFaultBy A.SettingsMemory.Refuses (judged_members (table_view table.now))) }
 {
     if !has_only_known(table) {
         return Err(SettingsError::Unknown);
@@ -217,10 +240,10 @@ fn settings_of<A: SettingsMemory>(alloc: A, table: &Table) -> Result<Settings, S
     let config = config_at(table)?;
     let limits = run_limits_at(table)?;
     let words = words_at(found(table, Key::Words))?;
-    let stall_seconds = number_at(table, Key::StallSeconds)?;
+    let stall_seconds = u32_at(table, Key::StallSeconds)?;
     let endless = flag_at(table, Key::Endless)?;
     let allow = ranges_at(found(table, Key::Allow))?;
-    let max_per_address = number_at(table, Key::MaxPerAddress)?;
+    let max_per_address = u16_at(table, Key::MaxPerAddress)?;
     let control = text_at(table, Key::Control)?;
     let Ok((listen, server, control)) = copies_of(alloc, listen, server, control) else {
         return Err(SettingsError::Memory);
@@ -235,10 +258,10 @@ fn settings_of<A: SettingsMemory>(alloc: A, table: &Table) -> Result<Settings, S
         turns: limits.turns,
         idle_seconds: limits.idle_seconds,
         words,
-        stall_seconds: stall_seconds as u32,
+        stall_seconds,
         endless,
         allow,
-        max_per_address: max_per_address as u16,
+        max_per_address,
         control,
     })
 }
@@ -259,7 +282,7 @@ pub fn read_settings<A: SettingsMemory>(alloc: A, text: &str) -> Result<Settings
     ensures judged { IfOk result (λ settings. judged_settings (parse_document text.now) ≡ Ok (given_of settings)) }
     ensures refused { IfErr result (λ fault. fault ≢ SettingsError.Memory →
         judged_settings (parse_document text.now) ≡ Err fault) }
-    ensures cause { IfErr result (IsSettingsCause A.Refuses text.now) }
+    ensures cause { IfErr result (IsSettingsCause A.SettingsMemory.Refuses text.now) }
 {
     match alloc.document(text) {
         Ok(table) => settings_of(alloc, &table),

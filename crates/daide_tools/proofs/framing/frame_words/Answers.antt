@@ -9,7 +9,7 @@ use Rattle.daide_tools.proofs.framing.frame_words.Goals as goal
 pub returns-in_default : goal.returns-in_default
 returns-in_default g c =
     IfOk-weaker c.print_fault.result _ _
-    (λ status e. frame_without_memory (names_of (words_of c.args.words.now))
+    (λ status e. frame_without_memory _ (names_of (words_of c.args.words.now))
     (Some (join_with_byte 32 (map (λ word. word.now) c.args.typed.now) ++ 10 ∷ []))
-    (g.O.Write.contents c.args.output.now) status e)
+    (g.O.Write.contents c.args.output.now) status c.in_default.ensures.refused e)
     c.print_fault.ensures

@@ -5,4 +5,4 @@ use Rattle.daide_settings.proofs.settings.judged.unknown_keys.Given as goal
 
 -- the unknown keys so far, and those among the keys left, are all
 abbrev pub invariant-loop-key : goal.invariant-loop-key
-invariant-loop-key l = map (λ key. key.now) l.unknown.items ++ unknown_of l.key-iterator ≡ unknown_of (keys l.table)
+invariant-loop-key g l = map (λ key. key.now) l.unknown.items ++ unknown_of l.key-iterator ≡ unknown_of (keys l.table)

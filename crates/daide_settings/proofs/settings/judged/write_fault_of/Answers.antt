@@ -2,8 +2,8 @@ use Rattle.daide_settings.proofs.Common.{ap, ◌∙◌, on_ok_weaker, faulty_par
 use Rattle.daide_settings.proofs.LineLemmas.{fault_part}
 use Rattle.daide_settings.proofs.settings.judged.write_fault_of.Goals as goal
 
-pub returns : goal.returns
-returns c =
+pub returns-clause-written : goal.returns-clause-written
+returns-clause-written g c =
     on_ok_weaker c.write_fault.result
     (λ line. (
       line.0,
@@ -13,4 +13,4 @@ returns c =
           line.1,
       line.2,
     ))
-    c.write_fault.ensures
+    c.write_fault.ensures.written

@@ -3,12 +3,12 @@ use Rattle.daide_settings.proofs.ReportLemmas.{none_written, parts_next, parts_o
 use Rattle.daide_settings.proofs.settings.judged.write_values.Goals as goal
 
 pub loop-rest-init : goal.loop-rest-init
-loop-rest-init c = none_written _ c.args.keys.now c.args.report.now.items
+loop-rest-init g c = none_written _ c.args.keys.now c.args.report.now.items
 
 pub loop-rest-preserved : goal.loop-rest-preserved
-loop-rest-preserved c =
+loop-rest-preserved g c =
     parts_next _ _ c.loop-rest.rest.now _ _ _ _ _ c.loop-rest.invariant c.in-len1-up.len_at_least (omega arith)
-    c.in_ok-write_value_of.ensures
+    c.in_ok-write_value_of.ensures.written
 
-pub returns : goal.returns
-returns c = parts_over _ _ c.loop-rest.rest.now _ _ c.in_default.len_below c.loop-rest.invariant
+pub returns-clause-written : goal.returns-clause-written
+returns-clause-written g c = parts_over _ _ c.loop-rest.rest.now _ _ c.in_default.len_below c.loop-rest.invariant

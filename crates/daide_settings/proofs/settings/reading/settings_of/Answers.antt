@@ -64,7 +64,7 @@ returns-in_err-stall_seconds-clause-refused g c =
       ← c.in_ok-limits.ensures.judged,
       ← c.found.ensures,
       c.in_ok-words.ensures,
-      ← c.in_err-stall_seconds.ensures.judged,
+      ← c.in_err-stall_seconds.ensures,
     ) refl)
 
 pub returns-in_err-endless-clause-refused : goal.returns-in_err-endless-clause-refused
@@ -78,7 +78,7 @@ returns-in_err-endless-clause-refused g c =
       ← c.in_ok-limits.ensures.judged,
       ← c.found.ensures,
       c.in_ok-words.ensures,
-      ← c.in_ok-stall_seconds.ensures.judged,
+      ← c.in_ok-stall_seconds.ensures,
       ← c.in_err-endless.ensures,
     ) refl)
 
@@ -93,7 +93,7 @@ returns-in_err-allow-clause-refused g c =
       ← c.in_ok-limits.ensures.judged,
       ← c.found.ensures,
       c.in_ok-words.ensures,
-      ← c.in_ok-stall_seconds.ensures.judged,
+      ← c.in_ok-stall_seconds.ensures,
       ← c.in_ok-endless.ensures,
       ← c.found-2.ensures,
       c.in_err-allow.ensures,
@@ -110,7 +110,7 @@ returns-in_err-max_per_address-clause-refused g c =
       ← c.in_ok-limits.ensures.judged,
       ← c.found.ensures,
       c.in_ok-words.ensures,
-      ← c.in_ok-stall_seconds.ensures.judged,
+      ← c.in_ok-stall_seconds.ensures,
       ← c.in_ok-endless.ensures,
       ← c.found-2.ensures,
       c.in_ok-allow.ensures,
@@ -128,7 +128,7 @@ returns-in_err-control-clause-refused g c =
       ← c.in_ok-limits.ensures.judged,
       ← c.found.ensures,
       c.in_ok-words.ensures,
-      ← c.in_ok-stall_seconds.ensures.judged,
+      ← c.in_ok-stall_seconds.ensures,
       ← c.in_ok-endless.ensures,
       ← c.found-2.ensures,
       c.in_ok-allow.ensures,
@@ -146,7 +146,7 @@ returns-in_default-clause-refused g c =
       ← c.in_ok-limits.ensures.judged,
       ← c.found.ensures,
       c.in_ok-words.ensures,
-      ← c.in_ok-stall_seconds.ensures.judged,
+      ← c.in_ok-stall_seconds.ensures,
       ← c.in_ok-endless.ensures,
       ← c.found-2.ensures,
       c.in_ok-allow.ensures,
@@ -164,7 +164,7 @@ returns-clause-judged g c =
       ← c.in_ok-limits.ensures.judged,
       ← c.found.ensures,
       c.in_ok-words.ensures,
-      ← c.in_ok-stall_seconds.ensures.judged,
+      ← c.in_ok-stall_seconds.ensures,
       ← c.in_ok-endless.ensures,
       ← c.found-2.ensures,
       c.in_ok-allow.ensures,
