@@ -40,7 +40,7 @@ stage_after Unknown = Writes 0
 stage_after Unfinished = Reads
 
 -- The status or the answer that begins by what was received. Of a status it is that of the run.
-abbrev pub BeginsReply : RunStatus → Judgement → Option StatusText → Answer → Type 0
+abbrev pub BeginsReply : {A : Type 0} → RunStatus → Judgement → Option (StatusText A) → Answer → Type 0
 BeginsReply run (Requests (Status format)) status answer = Begins format run status
 BeginsReply run (Requests Stop) status answer = Unit {0}
 BeginsReply run (Requests StopNow) status answer = Unit {0}

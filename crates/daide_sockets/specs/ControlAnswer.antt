@@ -16,17 +16,17 @@ reply_text UnknownRequest = codes "unknown request\n"
 reply_text OutOfMemory = codes "out of memory\n"
 
 -- a status begins with that of the run, unless memory is refused
-abbrev pub Begins : Format → RunStatus → Option StatusText → Type 0
+abbrev pub Begins : {A : Type 0} → Format → RunStatus → Option (StatusText A) → Type 0
 Begins format run None = Unit {0}
 Begins format run (Some text) = status_view text ≡ begun format run
 
 -- A status gets this row, as its last one, unless memory is refused. Once it was, there is no status.
-abbrev pub Adds : SessionRow → Option StatusText → Option StatusText → Type 0
+abbrev pub Adds : {A : Type 0} → SessionRow → Option (StatusText A) → Option (StatusText A) → Type 0
 Adds row None new = new ≡ None
 Adds row (Some old) None = Unit {0}
 Adds row (Some old) (Some new) = status_view new ≡ with_row row (status_view old)
 
 -- The answer is the whole text of the status, or says that memory was refused.
-abbrev pub Finishes : Option StatusText → Answer → Type 0
+abbrev pub Finishes : {A : Type 0} → Option (StatusText A) → Answer → Type 0
 Finishes None answer = answer ≡ OutOfMemory
 Finishes (Some text) answer = (reply_text answer ≡ ended (status_view text)) ⊎ (answer ≡ OutOfMemory)

@@ -6,8 +6,8 @@ use Rattle.daide_sockets.proofs.control_connection.ControlConnection.complete.Go
 pub returns : goal.returns
 returns g c = record {
   whole = record c.args.self.now { status = c.take.new.self; answer = c.finished.result };
-  finishes = subst (λ (s : Option StatusText). Finishes s c.finished.result) c.take.ensures.value c.finished.ensures;
-  others = ap (λ (s : Option StatusText). record c.args.self.now { status = s; answer = c.finished.result })
+  finishes = subst (λ (s : Option (StatusText _)). Finishes s c.finished.result) c.take.ensures.value c.finished.ensures;
+  others = ap (λ (s : Option (StatusText _)). record c.args.self.now { status = s; answer = c.finished.result })
       c.take.ensures.after;
   writes = c.write_on.ensures;
 }
