@@ -10,20 +10,20 @@ use Rattle.daide_log.specs.declared.moment.Moment.{Moment}
 use Rattle.daide_sockets.specs.declared.ports.SocketPorts.{SocketPorts}
 use Rattle.daide_sockets.specs.declared.present.Bot.{Bot}
 use Rattle.daide_run.specs.declared.folder.Folder.{Folder}
-use Rattle.daide_run.specs.Folder.{HasOwnRecord, Starts, head_for, head_in}
+use Rattle.daide_run.specs.Folder.{HasOwnRecord, Starts, head_for, folder_head}
 
 module _ {S R File Dir : Type 0} (failed : Type 0) (folder : Option (Bor (Folder R File Dir))) (made : Recorded (SocketPorts S)) where
   -- without a folder there is none
-  pub none_begun : folder ≡ None → made.record_of ≡ no_record → HasOwnRecord failed (head_in folder) made
+  pub none_begun : folder ≡ None → made.record_of ≡ no_record → HasOwnRecord failed (folder_head folder) made
   none_begun is none =
-      subst (λ (f : Option (Bor (Folder R File Dir))). HasOwnRecord failed (head_in f) made) (sym is) none
+      subst (λ (f : Option (Bor (Folder R File Dir))). HasOwnRecord failed (folder_head f) made) (sym is) none
 
   -- with this folder there is the one of these ports, or none
   module _ (opened : Bor (Folder R File Dir)) (ports : SocketPorts S) (bot : Bot) (now : Option Moment)
       (same : made.ports ≡ ports) (own : bot ≡ ports.identity) where
     begun_in : (made.record_of ≡ no_record)
         ⊎ Starts failed opened.now.config (words_of opened.now.words) (bot.number, Some bot.address) now made.record_of made.last →
-        HasOwnRecord failed (head_in (Some opened)) made
+        HasOwnRecord failed (folder_head (Some opened)) made
     begun_in (inl none) = inl none
     begun_in (inr starts) =
         inr (
@@ -35,9 +35,9 @@ module _ {S R File Dir : Type 0} (failed : Type 0) (folder : Option (Bor (Folder
 
     pub own_begun : folder ≡ Some opened → (made.record_of ≡ no_record)
         ⊎ Starts failed opened.now.config (words_of opened.now.words) (bot.number, Some bot.address) now made.record_of made.last →
-        HasOwnRecord failed (head_in folder) made
+        HasOwnRecord failed (folder_head folder) made
     own_begun is h =
-        subst (λ (f : Option (Bor (Folder R File Dir))). HasOwnRecord failed (head_in f) made) (sym is) (begun_in h)
+        subst (λ (f : Option (Bor (Folder R File Dir))). HasOwnRecord failed (folder_head f) made) (sym is) (begun_in h)
 
 -- limits and words that are those of the settings head the records
 pub head_by : {F : Type 0} (settings : Settings) (records : Option F) (path : F) (config : Config) (words : Words) →

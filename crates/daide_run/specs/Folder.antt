@@ -85,8 +85,8 @@ RecordHead = Option (Config × List Word)
 abbrev pub head_for : {F : Type 0} → Settings → Option F → RecordHead
 head_for settings folder = option_map (λ f. (settings.config, words_of settings.words)) folder
 
-abbrev pub head_in : {R File Dir : Type 0} → Option (Bor (Folder R File Dir)) → RecordHead
-head_in folder = option_map (λ f. (f.now.config, words_of f.now.words)) folder
+abbrev pub folder_head : {R File Dir : Type 0} → Option (Bor (Folder R File Dir)) → RecordHead
+folder_head folder = option_map (λ f. (f.now.config, words_of f.now.words)) folder
 
 -- The ports with which a session begins. With a folder they have the record of the session's own number and of its bot's
 -- address, or none if it could not be started. Without a folder they have none.

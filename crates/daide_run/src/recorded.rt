@@ -5,7 +5,7 @@ ghost use Rattle.std.specs.Prelude.{◌≡◌};
 ghost use Rattle.daide_log.specs.Recording.{HasFailed};
 ghost use Rattle.daide_sockets.specs.Finishing.{FinishesAll};
 ghost use Rattle.daide_sockets.specs.Scheduling.{RunEvolves, run_state};
-ghost use Rattle.daide_run.specs.Folder.{CallRecords, head_in};
+ghost use Rattle.daide_run.specs.Folder.{CallRecords, folder_head};
 
 use crate::folder::{Folder, SessionFile, end, log_if_ended};
 use daide_io::{Connect, Network, Notice, Orders, ReadyQueue, SessionEnd, SessionStatus, System};
@@ -95,7 +95,7 @@ impl<'w, N: Network, R: AllocGlobal + Files, C: Clock, E: Write + Drop> System<
         old.sockets.now.acceptor old.sockets.now.arrivals.items old.sockets.now.closings) call
         (run_state (new.sockets.now.poller.network, new.sockets.now.poller.table) (new.sockets.now.idle_time, new.sockets.now.stall_time)
         new.sockets.now.acceptor new.sockets.now.arrivals.items new.sockets.now.closings)
-        × CallRecords (HasFailed ⟦<SessionFile<R::File> as Sink>⟧.Fails) (head_in old.folder) call
+        × CallRecords (HasFailed ⟦<SessionFile<R::File> as Sink>⟧.Fails) (folder_head old.folder) call
         × (new.folder ≡ old.folder) };
 
     /// The times that are recorded until the next poll are that of this one.

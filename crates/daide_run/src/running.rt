@@ -2,7 +2,7 @@
 
 ghost use Rattle.std.specs.Prelude.{◌≡◌, [], None, IfErr};
 ghost use Rattle.daide_log.specs.Recording.{HasFailed};
-ghost use Rattle.daide_run.specs.Folder.{head_for, head_in};
+ghost use Rattle.daide_run.specs.Folder.{head_for, folder_head};
 ghost use Rattle.daide_run.specs.Running.{RunEnds, Serves, SettingsRun, TextRuns, IsOfText, ending_by};
 ghost use Rattle.daide_sockets.specs.Rows.{AreRowsOf};
 ghost use Rattle.daide_sockets.specs.Scheduling.{run_state};
@@ -90,7 +90,8 @@ fn serve_opened<
 ) -> Result<(), ServeFault>
     ensures { Serves N.transition N.Connection.to_give N.Connection.taken N.Connection.calls
         ⟦<Recording<SocketPorts<'static, N::Connection>, SessionFile<F::File>> as Ports>⟧.transition
-        (HasFailed ⟦<SessionFile<F::File> as Sink>⟧.Fails) (head_in folder.entry) settings.now (HasFailed O.Fails) (O.contents output.old) (O.contents output.new)
+        (HasFailed ⟦<SessionFile<F::File> as Sink>⟧.Fails) (folder_head folder.entry) settings.now
+        (HasFailed O.Fails) (O.contents output.old) (O.contents output.new)
         (run_state (sockets.old.poller.network, sockets.old.poller.table) (sockets.old.idle_time, sockets.old.stall_time)
         sockets.old.acceptor sockets.old.arrivals.items sockets.old.closings) result }
 {
@@ -130,7 +131,8 @@ pub(crate) fn run_on<
     requires { AreRowsOf resources.2 [] }
     ensures runs { RunEnds N.transition N.Connection.to_give N.Connection.taken N.Connection.calls
         ⟦<Recording<SocketPorts<'static, N::Connection>, SessionFile<F::File>> as Ports>⟧.transition
-        (HasFailed ⟦<SessionFile<F::File> as Sink>⟧.Fails) (head_in reports.entry.folder) settings.now (HasFailed O.Fails) resources.entry.0 (O.contents output.old) (O.contents output.new) result }
+        (HasFailed ⟦<SessionFile<F::File> as Sink>⟧.Fails) (folder_head reports.entry.folder) settings.now
+        (HasFailed O.Fails) resources.entry.0 (O.contents output.old) (O.contents output.new) result }
 {
     let Some(mut sockets) = sockets_on(rt.alloc(), settings, resources, errors) else {
         return Err(RunFault::Memory);
@@ -172,7 +174,8 @@ fn serve_sockets<
     ensures { SettingsRun {F = Unit {0}} None ⟦<OsNetwork<'r, R> as Network>⟧.transition ⟦<Connection as Duplex>⟧.to_give
         ⟦<Connection as Duplex>⟧.taken ⟦<Connection as Duplex>⟧.calls
         ⟦<Recording<SocketPorts<'static, Connection>, SessionFile<F::File>> as Ports>⟧.transition
-        (HasFailed ⟦<SessionFile<F::File> as Sink>⟧.Fails) (head_in reports.entry.folder) settings.now (HasFailed O.Fails) (O.contents output.old) (O.contents output.new) result }
+        (HasFailed ⟦<SessionFile<F::File> as Sink>⟧.Fails) (folder_head reports.entry.folder) settings.now
+        (HasFailed O.Fails) (O.contents output.old) (O.contents output.new) result }
 {
     let bound = bind(rt, settings).map_err(RunFault::Gateway)?;
     let _file = control_file(rt, settings);
@@ -201,7 +204,8 @@ fn serve_reported<'r, R: AllocGlobal + Files + Clock + Net, O: Sink, E: Write>(
     ensures { SettingsRun records.entry ⟦<OsNetwork<'r, R> as Network>⟧.transition ⟦<Connection as Duplex>⟧.to_give
         ⟦<Connection as Duplex>⟧.taken ⟦<Connection as Duplex>⟧.calls
         ⟦<Recording<SocketPorts<'static, Connection>, SessionFile<R::File>> as Ports>⟧.transition
-        (HasFailed ⟦<SessionFile<R::File> as Sink>⟧.Fails) (head_for settings.now records.entry) settings.now (HasFailed O.Fails) (O.contents output.old) (O.contents output.new) result }
+        (HasFailed ⟦<SessionFile<R::File> as Sink>⟧.Fails) (head_for settings.now records.entry) settings.now
+        (HasFailed O.Fails) (O.contents output.old) (O.contents output.new) result }
 {
     let Some(path) = records else {
         let reports = SessionReports::<R> {
@@ -247,7 +251,8 @@ pub fn run_text<'r, R: AllocGlobal + Files + Clock + Net, O: Sink, E: Write>(
     ensures runs { TextRuns records.entry ⟦<OsNetwork<'r, R> as Network>⟧.transition ⟦<Connection as Duplex>⟧.to_give
         ⟦<Connection as Duplex>⟧.taken ⟦<Connection as Duplex>⟧.calls
         ⟦<Recording<SocketPorts<'static, Connection>, SessionFile<R::File>> as Ports>⟧.transition
-        (HasFailed ⟦<SessionFile<R::File> as Sink>⟧.Fails) text.now (HasFailed O.Fails) (O.contents output.old) (O.contents output.new) result }
+        (HasFailed ⟦<SessionFile<R::File> as Sink>⟧.Fails) text.now
+        (HasFailed O.Fails) (O.contents output.old) (O.contents output.new) result }
     ensures untouched { IfErr result (λ fault. IsOfText fault →
         (output.new ≡ output.old) × (errors.new ≡ errors.old)) }
 {
