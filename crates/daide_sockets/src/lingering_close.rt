@@ -536,7 +536,8 @@ impl<'w, S: Duplex + Drop> Closings<'w, S> {
     }
 
     /// Makes the same rounds until no socket closes, or until 2^64 - 1 rounds were made, and waits between them
-    /// (`GoOnFor`). So at the end of a run too no buffered byte is dropped before its writing is over.
+    /// (`GoOnFor`). So at the end of a run a socket is closed as in any round: after its bytes are written, after a write
+    /// that failed, or once its time is over.
     ///
     /// `readings`: each round is at the last reading of the clock, and the wait after it watches each socket.
     pub fn finish<N: Network>(&mut self, poller: &mut Poller<N>)
