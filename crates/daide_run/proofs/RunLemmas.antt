@@ -67,8 +67,7 @@ module _ {N C S : Type 0} (transition : N → NetworkCall C → N → Type 0) (t
         TraceRecords record_failed (head_of old) trace
     records_go [] old new e = tt
     records_go (call ∷ trace) old new h =
-        let stepped = evolves old call h.0 h.1 in
-        (
+        let stepped = evolves old call h.0 h.1 in (
           stepped.1,
           subst (λ (head : RecordHead). TraceRecords record_failed head trace) stepped.2 (records_go trace h.0 new h.2),
         )

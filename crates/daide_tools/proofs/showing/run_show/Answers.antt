@@ -16,13 +16,17 @@ returns-in-Some-clause-shown g c =
     let refused = WasRefused g.A.Memory.Refuses in
     let write = HasFailed g.O.Sink.Fails in
     IfOk-weaker c.show_words.result _ _
-    (λ status h. inr (words_of c.in-Ok.words, (λ none. search rules), rw c.in-Some.is (
-      h.0,
-      h.1,
-      IfErr-weaker h.0 (IsShowCause ⊥ refused write) (IsShowCause (HasFailed g.I.Source.Fails) refused write)
-          (show_cause_of refused (λ e. absurd e) (λ e. e)) h.2,
-      h.3,
-    )))
+    (λ status h. inr (
+      words_of c.in-Ok.words,
+      (λ none. search rules),
+      rw c.in-Some.is (
+        h.0,
+        h.1,
+        IfErr-weaker h.0 (IsShowCause ⊥ refused write) (IsShowCause (HasFailed g.I.Source.Fails) refused write)
+            (show_cause_of refused (λ e. absurd e) (λ e. e)) h.2,
+        h.3,
+      ),
+    ))
     c.show_words.ensures
 
 pub returns-in-None-clause-shown : goal.returns-in-None-clause-shown
