@@ -1,8 +1,9 @@
 //! A writer whose contracts can state that a write failed.
 
-ghost use Rattle.std.specs.Prelude.{OnOk, OnErr};
+ghost use Rattle.std.specs.Prelude.{IfSome, OnOk, OnErr};
 ghost use Rattle.std.specs.Io.KnownBytes.{Appends};
 
+use std::fmt::Display;
 use std::io;
 use std::io::Write;
 
@@ -19,6 +20,12 @@ pub trait Sink: Write {
     fn write_whole(&mut self, bytes: &[u8]) -> io::Result<()>
         ensures written { OnOk result (Appends (Self.contents self.old) (Self.contents self.new) bytes.now) }
         ensures failed { OnErr result (Fails self.old self.new) };
+
+    /// Writes what is displayed.
+    fn write_text<D: Display + Drop>(&mut self, shown: D) -> io::Result<()>
+        ensures written { OnOk result (IfSome (D.output shown) (λ bytes.
+            Appends (Self.contents self.old) (Self.contents self.new) bytes)) }
+        ensures failed { OnErr result (Fails self.old self.new) };
 }
 
 impl<W: Write> Sink for W {
@@ -26,5 +33,9 @@ impl<W: Write> Sink for W {
 
     fn write_whole(&mut self, bytes: &[u8]) -> io::Result<()> {
         self.write_all(bytes)
+    }
+
+    fn write_text<D: Display + Drop>(&mut self, shown: D) -> io::Result<()> {
+        self.write_fmt(shown)
     }
 }

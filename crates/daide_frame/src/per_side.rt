@@ -51,4 +51,12 @@ impl<T> PerSide<T> {
             Side::Server => &mut self.server,
         }
     }
+
+    /// Gives up the pair, and returns the bot's value and the server's.
+    pub fn into_both(self) -> (T, T)
+        ensures { result ≡ (self.bot, self.server) }
+    {
+        let PerSide { bot, server } = self;
+        (bot, server)
+    }
 }

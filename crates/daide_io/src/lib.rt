@@ -20,7 +20,7 @@ pub mod system;
 pub use byte_counts::ByteCounts;
 pub use duplex::Duplex;
 pub use fault_field::{FaultCause, FaultField};
-pub use network::{ConnectStatus, Network, SocketEvent};
+pub use network::{ConnectReport, ConnectStatus, Network, SocketEvent};
 pub use outcome::IoResult;
 pub use ports::{Ports, Pull, Put};
 pub use ready_queue::ReadyQueue;

@@ -4,26 +4,44 @@
 //! blocks, and none decides anything: what is asked, and when, is the caller's choice.
 
 ghost use Rattle.std.specs.Prelude.{◌≡◌};
-ghost use Rattle.daide_io.specs.Network.{NetworkCall, ReadsClock, Polls, Listens, AcceptsConnection, BeginsConnect};
+ghost use Rattle.daide_io.specs.Network.{NetworkCall, ReadsClock, Polls, Listens, ChecksDescriptors, AcceptsConnection};
 ghost use Rattle.daide_io.specs.Streams.{IsSameStream};
-ghost use Rattle.daide_io.specs.Network.{StopsListening, ListensForControl, AcceptsControl, Follows, AsksConnect};
+ghost use Rattle.daide_io.specs.Network.{StopsListening, ListensForControl, AcceptsControl, BeginsConnect, Follows, AsksConnect};
+ghost use Rattle.daide_io.specs.Network.{status_of};
 
 use crate::duplex::Duplex;
 use std::io;
+use std::io::ErrorKind;
 use std::net::SocketAddr;
 use std::time::{Duration, Instant};
 
-/// What a poll reports of one socket. A report may be spurious: the call that follows may still block.
+/// What a poll reports of one socket, as the system reports it. A report may be spurious: the call that follows may still
+/// block.
 #[derive(Clone, Copy)]
 pub struct SocketEvent {
     /// The key of the socket.
     pub key: usize,
-    /// Whether a read, or a listener's accept, may succeed. This includes an end and a failure.
-    pub may_read: bool,
-    /// Whether a write may accept bytes, or fail.
-    pub may_write: bool,
-    /// Whether it reports an end, a failure or an urgent byte, which the system reports only once.
-    pub reads_on: bool,
+    /// Whether a read, or a listener's accept, may succeed.
+    pub is_readable: bool,
+    /// Whether a write may accept bytes.
+    pub is_writable: bool,
+    /// Whether the peer ended what it sends.
+    pub is_read_closed: bool,
+    /// Whether the peer accepts nothing more.
+    pub is_write_closed: bool,
+    /// Whether the socket failed.
+    pub is_error: bool,
+    /// Whether an urgent byte came.
+    pub is_priority: bool,
+}
+
+/// What the system reports of a connect.
+#[derive(Clone, Copy)]
+pub struct ConnectReport {
+    /// Why the connect failed, or why the system does not say whether it did.
+    pub failure: Option<ErrorKind>,
+    /// Whether the socket has a peer.
+    pub has_peer: bool,
 }
 
 /// The state of a connect.
@@ -35,6 +53,19 @@ pub enum ConnectStatus {
     Failed,
     /// The system has no result yet.
     Pending,
+}
+
+impl ConnectReport {
+    /// Returns the state of the connect: it failed if a failure is reported, and otherwise it is pending until it has a peer.
+    pub fn status(self) -> ConnectStatus
+        ensures { result ≡ status_of self.failure self.has_peer }
+    {
+        match self.failure {
+            Some(_) => ConnectStatus::Failed,
+            None if self.has_peer => ConnectStatus::Connected,
+            None => ConnectStatus::Pending,
+        }
+    }
 }
 
 /// The sockets of the operating system, and its clock, as a process calls them.
@@ -61,7 +92,13 @@ pub trait Network: Drop {
     fn listen(&mut self, key: usize) -> bool
         ensures { transition self.old (Listens key result) self.new };
 
-    /// Accepts a connection, and returns it with its peer's address, if a further descriptor is left for a connect.
+    /// Finds out whether this many further descriptors are free. They still are once it returns.
+    ///
+    /// Fails with the system's own error.
+    fn check_descriptors(&mut self, count: usize) -> io::Result<()>
+        ensures { transition self.old (ChecksDescriptors count result) self.new };
+
+    /// Accepts a connection, and returns it with its peer's address.
     ///
     /// Fails with `WouldBlock` if there is none, or with the system's own error.
     fn accept(&mut self) -> io::Result<(Self::Connection, SocketAddr)>
@@ -76,13 +113,13 @@ pub trait Network: Drop {
     fn listen_for_control(&mut self, key: usize) -> Option<bool>
         ensures { transition self.old (ListensForControl key result) self.new };
 
-    /// Accepts a control connection, if a further descriptor is left for a connect.
+    /// Accepts a control connection.
     ///
     /// Fails with `WouldBlock` if there is none, or with the system's own error.
     fn accept_control(&mut self) -> io::Result<Self::Connection>
         ensures { transition self.old (AcceptsControl result) self.new };
 
-    /// Begins a connect to this address. Its result comes later (`connect_status`).
+    /// Begins a connect to this address. Its result comes later (`connect_report`).
     ///
     /// Fails with the system's own error.
     fn connect(&mut self, address: SocketAddr) -> io::Result<Self::Connection>
@@ -99,8 +136,8 @@ pub trait Network: Drop {
         ensures same { IsSameStream Self.Connection.to_give Self.Connection.taken Self.Connection.calls connection.old
             connection.new };
 
-    /// Returns the state of a connection's connect.
-    fn connect_status(&mut self, connection: &Self::Connection) -> ConnectStatus
+    /// Returns what the system reports of a connection's connect.
+    fn connect_report(&mut self, connection: &Self::Connection) -> ConnectReport
         ensures { transition self.old (AsksConnect connection.now result) self.new };
 
     /// Returns the address from which a connection was made; `None` if the system does not say.

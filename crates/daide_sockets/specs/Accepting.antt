@@ -7,7 +7,7 @@ use Rattle.std.specs.declared.net.socket_addr.SocketAddr.{SocketAddr}
 use Rattle.std.specs.declared.io.ErrorKind.TheVariants as Kinds
 use Rattle.std.specs.declared.time.Instant.{Instant}
 use Rattle.daide_io.specs.Network.{NetworkCall, AcceptsConnection, BeginsConnect, AsksConnect, Follows}
-use Rattle.daide_io.specs.declared.network.ConnectStatus.{ConnectStatus}
+use Rattle.daide_io.specs.declared.network.ConnectReport.{ConnectReport}
 use Rattle.daide_buffered_io.specs.declared.readiness.Readiness.{Readiness}
 use Rattle.daide_sockets.specs.declared.admission.Acceptor.{Acceptor}
 use Rattle.daide_sockets.specs.declared.listener.Listener.{Listener}
@@ -95,10 +95,10 @@ abbrev pub may_connect : Table → ℕ → Option Readiness → Bool
 may_connect table key None = true
 may_connect table key (Some known) = (merged known (report_at table key)).may_write
 
--- no call was made, or one that asks for the state of a connect
+-- no call was made, or one that asks what is reported of a connect
 abbrev pub AsksAtMostOnce : {N C : Type 0} → (N → NetworkCall C → N → Type 0) → N → N → Type 0
 AsksAtMostOnce {C = C} transition old new =
-    (new ≡ old) ⊎ (connection : C) × (status : ConnectStatus) × transition old (AsksConnect connection status) new
+    (new ≡ old) ⊎ (connection : C) × (report : ConnectReport) × transition old (AsksConnect connection report) new
 
 -- A look at a connect, of whose addresses the first `before` were tried: its state is asked at most once, and then connects are
 -- made to the next addresses, up to the first `after`.

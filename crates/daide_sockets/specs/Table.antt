@@ -39,9 +39,14 @@ merged one other = record {
   reads_on = one.reads_on || other.reads_on;
 }
 
--- what an event reports
+-- What an event reports. An end of what the peer sends, and a failure, are found by a read, and an end of what it accepts by a
+-- write. The system reports an end, a failure and an urgent byte only once, so reads go on past a short one.
 abbrev pub report_of : SocketEvent → Readiness
-report_of event = record { may_read = event.may_read; may_write = event.may_write; reads_on = event.reads_on }
+report_of event = record {
+  may_read = event.is_readable || event.is_read_closed || event.is_error;
+  may_write = event.is_writable || event.is_write_closed || event.is_error;
+  reads_on = event.is_read_closed || event.is_error || event.is_priority;
+}
 
 -- whether a report has something
 abbrev pub has_report : Readiness → Bool

@@ -132,7 +132,7 @@ is_follow _ = false
 abbrev pub is_of_connect : {C : Type 0} → NetworkCall C → Bool
 is_of_connect (BeginsConnect address begun) = true
 is_of_connect (Follows before key is_followed after) = true
-is_of_connect (AsksConnect connection status) = true
+is_of_connect (AsksConnect connection report) = true
 is_of_connect _ = false
 
 -- a call that a poll may make after it: a control connection is accepted or followed, or the listener for bots is closed

@@ -7,7 +7,8 @@ ghost use Rattle.std.specs.Duration.{as_nanos};
 ghost use Rattle.std.specs.Net.Socket.{socket_ip};
 ghost use Rattle.std.specs.Prelude.{◌≡◌, ◌⊎◌, ℕ, ◌+◌, ◌<◌, ◌≤◌, ◌++◌, ◌∷◌, [], Some, None, Err, true, false, IfOk, IfErr, IfSome, IfNone, IsSome, length};
 ghost use Rattle.daide_buffered_io.specs.Buffers.{Buffer};
-ghost use Rattle.daide_io.specs.Network.{AsksConnect, Listens, StopsListening};
+ghost use Rattle.daide_io.specs.Network.{AsksConnect, Listens, StopsListening, status_of};
+ghost use Rattle.daide_io.specs.declared.network.ConnectReport.{ConnectReport};
 ghost use Rattle.daide_settings.specs.Ranges.{host_of, may_come};
 ghost use Rattle.daide_sockets.specs.Accepting.{is_bot_due, may_connect, AcceptsOnce, AcceptsOneBot, BringsBot};
 ghost use Rattle.daide_sockets.specs.Accepting.{AsksAtMostOnce, BringsNoBot, ConnectsFrom, TriesOn, GivesConnection, Pauses};
@@ -414,7 +415,7 @@ impl<'w, S: Duplex + Drop> PendingConnection<'w, S> {
     ///
     /// `quiet`: without a report it is pending, and no call is made.
     ///
-    /// `asked`: with one the result is the network's.
+    /// `asked`: with one it is the state that the network reports.
     ///
     /// `still`: if it is pending, the connect has no result until the next report.
     ///
@@ -428,7 +429,8 @@ impl<'w, S: Duplex + Drop> PendingConnection<'w, S> {
             (result ≡ ConnectStatus.Pending) × (poller.new.network ≡ poller.old.network) }
         ensures asked { may_connect poller.old.table key self.old.known ≡ true → (server : Buffer S) →
             self.old.server ≡ Some server →
-            N.transition poller.old.network (AsksConnect server.stream result) poller.new.network }
+            (report : ConnectReport) × N.transition poller.old.network (AsksConnect server.stream report) poller.new.network
+            × (result ≡ status_of report.failure report.has_peer) }
         ensures still { result ≡ ConnectStatus.Pending → may_connect poller.new.table key self.new.known ≡ false }
         ensures reported { result ≡ ConnectStatus.Connected → IfSome self.new.known (λ known.
             merged known (report_at poller.old.table key) ≡ known) }
@@ -440,12 +442,13 @@ impl<'w, S: Duplex + Drop> PendingConnection<'w, S> {
         let Some(server) = &mut self.server else {
             return ConnectStatus::Failed;
         };
-        let report = poller.table.take_report(key);
-        server.note_report(report);
+        let known = poller.table.take_report(key);
+        server.note_report(known);
         if !server.readiness.may_write {
             return ConnectStatus::Pending;
         }
-        let status = poller.network.connect_status(server.connection());
+        let report = poller.network.connect_report(server.connection());
+        let status = report.status();
         if status == ConnectStatus::Pending {
             server.readiness.may_write = false;
         }

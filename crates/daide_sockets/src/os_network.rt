@@ -6,7 +6,7 @@
 //! one, so that it never takes the last. Without them the accept fails with the system's error, and the connection waits.
 
 use crate::connection::Connection;
-use daide_io::network::{ConnectStatus, Network, SocketEvent};
+use daide_io::network::{ConnectReport, Network, SocketEvent};
 use mio::event::Event;
 use mio::net::{TcpListener, TcpStream, UnixListener};
 use mio::{Events, Interest, Poll, Registry, Token};
@@ -29,6 +29,8 @@ pub struct OsNetwork<'r, R: Clock + Net> {
     registry: Registry,
     poll: Poll,
     events: Events,
+    /// Further descriptors, while it is checked that they are free.
+    probes: Vec<Registry>,
     /// Whether each session has a record, whose file takes a descriptor.
     is_recorded: bool,
 }
@@ -47,9 +49,12 @@ fn socket_event(event: &Event) -> SocketEvent {
     let Token(key) = event.token();
     SocketEvent {
         key,
-        may_read: event.is_readable() || event.is_read_closed() || event.is_error(),
-        may_write: event.is_writable() || event.is_write_closed() || event.is_error(),
-        reads_on: event.is_read_closed() || event.is_error() || event.is_priority(),
+        is_readable: event.is_readable(),
+        is_writable: event.is_writable(),
+        is_read_closed: event.is_read_closed(),
+        is_write_closed: event.is_write_closed(),
+        is_error: event.is_error(),
+        is_priority: event.is_priority(),
     }
 }
 
@@ -88,6 +93,7 @@ impl<'r, R: Clock + Net> OsNetwork<'r, R> {
             registry,
             poll,
             events,
+            probes: Vec::new(alloc),
             is_recorded: false,
         })
     }
@@ -95,6 +101,17 @@ impl<'r, R: Clock + Net> OsNetwork<'r, R> {
     /// Has each accept make sure of a descriptor for the file of a record.
     pub fn set_recorded(&mut self) {
         self.is_recorded = true;
+    }
+
+    /// Takes this many further descriptors.
+    fn probe(&mut self, count: usize) -> io::Result<()> {
+        for _ in 0..count {
+            let probe = self.registry.try_clone()?;
+            if self.probes.push(probe).is_err() {
+                return Err(ErrorKind::OutOfMemory.into());
+            }
+        }
+        Ok(())
     }
 
     /// Sets the listener of the control socket, before the sockets of a run are created over the network.
@@ -130,6 +147,12 @@ impl<R: Clock + Net> Network for OsNetwork<'_, R> {
                 .is_ok(),
             None => false,
         }
+    }
+
+    fn check_descriptors(&mut self, count: usize) -> io::Result<()> {
+        let checked = self.probe(count);
+        self.probes.clear();
+        checked
     }
 
     // The descriptors are free again once it returns.
@@ -199,15 +222,20 @@ impl<R: Clock + Net> Network for OsNetwork<'_, R> {
         }
     }
 
-    fn connect_status(&mut self, connection: &Connection) -> ConnectStatus {
-        let Connection::Tcp(stream) = connection else {
+    fn connect_report(&mut self, connection: &Connection) -> ConnectReport {
+        match connection {
+            Connection::Tcp(stream) => ConnectReport {
+                failure: match stream.take_error() {
+                    Ok(failure) => failure.map(|error| error.kind()),
+                    Err(error) => Some(error.kind()),
+                },
+                has_peer: stream.peer_addr().is_ok(),
+            },
             // Only connects to the server have a state.
-            return ConnectStatus::Failed;
-        };
-        match (stream.take_error(), stream.peer_addr()) {
-            (Ok(None), Ok(_)) => ConnectStatus::Connected,
-            (Ok(None), Err(_)) => ConnectStatus::Pending,
-            _ => ConnectStatus::Failed,
+            Connection::Control(_) => ConnectReport {
+                failure: Some(ErrorKind::NotConnected),
+                has_peer: false,
+            },
         }
     }
 

@@ -95,12 +95,12 @@ pub(crate) fn merged(one: Readiness, other: Readiness) -> Readiness
 /// Returns what a poll reports of a socket. The system reports an end, a failure or an urgent byte only once, so from
 /// then on a short read does not clear `may_read`.
 fn report_of(event: SocketEvent) -> Readiness
-    ensures { result ≡ record { may_read = event.may_read; may_write = event.may_write; reads_on = event.reads_on } }
+    ensures { result ≡ report_of event }
 {
     Readiness {
-        may_read: event.may_read,
-        may_write: event.may_write,
-        reads_on: event.reads_on,
+        may_read: event.is_readable | event.is_read_closed | event.is_error,
+        may_write: event.is_writable | event.is_write_closed | event.is_error,
+        reads_on: event.is_read_closed | event.is_error | event.is_priority,
     }
 }
 

@@ -194,7 +194,7 @@ fn status_of(
     address: SocketAddr,
 ) -> Result<ConnectStatus, Fail> {
     let connection = network.connect(address)?;
-    Ok(network.connect_status(&connection))
+    Ok(network.connect_report(&connection).status())
 }
 
 /// A pending connect is no connection, whatever the poller reports of its socket.

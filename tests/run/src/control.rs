@@ -2,11 +2,11 @@
 //! a round begins with.
 
 use crate::control::Given::{Bytes, End, Fails, Interrupted, Later};
-use crate::wires::some;
+use crate::wires::{ready_event, some};
 use daide_buffered_io::pool::Pool;
 use daide_frame::side::Side;
 use daide_io::duplex::Duplex;
-use daide_io::network::{ConnectStatus, Network, SocketEvent};
+use daide_io::network::{ConnectReport, Network, SocketEvent};
 use daide_io::ports::{ClockEvent, Ports, Pull};
 use daide_io::ready_queue::ReadyQueue;
 use daide_io::system::{Connect, Orders, System};
@@ -171,17 +171,16 @@ impl<'n> Network for Door<'n> {
         self.now = self.now.saturating_add(self.step);
         socket_events.clear();
         for key in 0..ROWS {
-            let _ = socket_events.push(SocketEvent {
-                key,
-                may_read: true,
-                may_write: true,
-                reads_on: false,
-            });
+            let _ = socket_events.push(ready_event(key));
         }
     }
 
     fn listen(&mut self, _key: usize) -> bool {
         true
+    }
+
+    fn check_descriptors(&mut self, _count: usize) -> io::Result<()> {
+        Ok(())
     }
 
     fn accept(&mut self) -> io::Result<(Line<'n>, SocketAddr)> {
@@ -227,8 +226,11 @@ impl<'n> Network for Door<'n> {
         true
     }
 
-    fn connect_status(&mut self, _connection: &Line<'n>) -> ConnectStatus {
-        ConnectStatus::Connected
+    fn connect_report(&mut self, _connection: &Line<'n>) -> ConnectReport {
+        ConnectReport {
+            failure: None,
+            has_peer: true,
+        }
     }
 
     fn local_address(&self, _connection: &Line<'n>) -> Option<SocketAddr> {

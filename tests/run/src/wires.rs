@@ -7,7 +7,7 @@ use daide_buffered_io::pool::Pool;
 use daide_buffered_io::readiness::Readiness;
 use daide_frame::side::Side;
 use daide_io::duplex::Duplex;
-use daide_io::network::{ConnectStatus, Network, SocketEvent};
+use daide_io::network::{ConnectReport, Network, SocketEvent};
 use daide_io::ports::{Ports, Pull, Put};
 use daide_settings::Host;
 use daide_sockets::poller::Poller;
@@ -460,6 +460,19 @@ pub struct Still {
     pub timeout: Option<Duration>,
 }
 
+/// Returns the report of a socket that may be read and written.
+pub fn ready_event(key: usize) -> SocketEvent {
+    SocketEvent {
+        key,
+        is_readable: true,
+        is_writable: true,
+        is_read_closed: false,
+        is_write_closed: false,
+        is_error: false,
+        is_priority: false,
+    }
+}
+
 impl Network for Still {
     type Connection = Wire;
 
@@ -474,12 +487,7 @@ impl Network for Still {
         self.timeout = timeout;
         for (key, is_ready) in self.ready.iter().enumerate() {
             if *is_ready {
-                let _ = socket_events.push(SocketEvent {
-                    key,
-                    may_read: true,
-                    may_write: true,
-                    reads_on: false,
-                });
+                let _ = socket_events.push(ready_event(key));
             }
         }
         self.ready = [false; ROWS];
@@ -487,6 +495,10 @@ impl Network for Still {
 
     fn listen(&mut self, _key: usize) -> bool {
         true
+    }
+
+    fn check_descriptors(&mut self, _count: usize) -> io::Result<()> {
+        Ok(())
     }
 
     fn accept(&mut self) -> io::Result<(Wire, SocketAddr)> {
@@ -515,8 +527,11 @@ impl Network for Still {
         true
     }
 
-    fn connect_status(&mut self, _connection: &Wire) -> ConnectStatus {
-        ConnectStatus::Failed
+    fn connect_report(&mut self, _connection: &Wire) -> ConnectReport {
+        ConnectReport {
+            failure: Some(ErrorKind::ConnectionRefused),
+            has_peer: false,
+        }
     }
 
     fn local_address(&self, _connection: &Wire) -> Option<SocketAddr> {

@@ -3,7 +3,7 @@
 use crate::state::State;
 use crate::wire::{Due, Place, Wire};
 use daide_io::duplex::Duplex;
-use daide_io::network::{ConnectStatus, Network, SocketEvent};
+use daide_io::network::{ConnectReport, ConnectStatus, Network, SocketEvent};
 use std::cell::RefCell;
 use std::io;
 use std::io::ErrorKind;
@@ -373,6 +373,10 @@ impl<'n> Network for MemoryNetwork<'n> {
         true
     }
 
+    fn check_descriptors(&mut self, _count: usize) -> io::Result<()> {
+        Ok(())
+    }
+
     fn accept(&mut self) -> io::Result<(MemoryConnection<'n>, SocketAddr)> {
         let wire = match self.world.state.try_borrow_mut() {
             Ok(mut state) => accepted(&mut state)?,
@@ -437,14 +441,23 @@ impl<'n> Network for MemoryNetwork<'n> {
         }
     }
 
-    fn connect_status(&mut self, connection: &MemoryConnection<'n>) -> ConnectStatus {
-        let Ok(mut state) = self.world.state.try_borrow_mut() else {
-            return ConnectStatus::Failed;
+    fn connect_report(&mut self, connection: &MemoryConnection<'n>) -> ConnectReport {
+        let status = match self.world.state.try_borrow_mut() {
+            Ok(mut state) => {
+                state.note_call();
+                match state.wire(connection.wire) {
+                    Some(wire) => wire.status,
+                    None => ConnectStatus::Failed,
+                }
+            }
+            Err(_) => ConnectStatus::Failed,
         };
-        state.note_call();
-        match state.wire(connection.wire) {
-            Some(wire) => wire.status,
-            None => ConnectStatus::Failed,
+        ConnectReport {
+            failure: match status {
+                ConnectStatus::Failed => Some(ErrorKind::ConnectionRefused),
+                ConnectStatus::Connected | ConnectStatus::Pending => None,
+            },
+            has_peer: status == ConnectStatus::Connected,
         }
     }
 

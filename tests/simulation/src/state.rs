@@ -572,7 +572,7 @@ impl State {
             return;
         }
         let report = wire.report(key);
-        if report.may_read && wire.reported_at == 0 {
+        if report.is_readable && wire.reported_at == 0 {
             wire.reported_at = polls;
         }
         let _ = socket_events.push(report);
@@ -648,8 +648,11 @@ pub fn millis_of(time: Duration) -> u64 {
 fn event(key: usize, due: Due) -> SocketEvent {
     SocketEvent {
         key,
-        may_read: due.read,
-        may_write: due.write,
-        reads_on: due.end,
+        is_readable: due.read,
+        is_writable: due.write,
+        is_read_closed: false,
+        is_write_closed: false,
+        is_error: false,
+        is_priority: due.end,
     }
 }

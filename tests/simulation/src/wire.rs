@@ -265,9 +265,12 @@ impl Wire {
         self.due = Due::NONE;
         SocketEvent {
             key,
-            may_read: due.read || due.end,
-            may_write: due.write || due.end && self.is_reset,
-            reads_on: due.end,
+            is_readable: due.read || due.end,
+            is_writable: due.write,
+            is_read_closed: due.end && self.is_ended,
+            is_write_closed: false,
+            is_error: due.end && self.is_reset,
+            is_priority: due.end,
         }
     }
 
