@@ -5,12 +5,12 @@ use Rattle.daide_log.proofs.Common.{Summary, Config, limits_with, initial_state,
 use Rattle.daide_log.proofs.Common.{nothing_counted, BadLine, RecordEnd, Whole, Failed, MatchConfig, config_of_line}
 use Rattle.daide_log.proofs.Common.{match_config_of_line, Unnamed, IsLines, SessionsAreAlone, own_reported, HasFault}
 use Rattle.daide_log.proofs.Common.{Recorded, Records, ReportEntry, counted_all, lines_of, summary_line}
-use Rattle.daide_log.proofs.Common.{length, Option, None, ap, Bot, Server, Ending, Over, SessionState, coming}
+use Rattle.daide_log.proofs.Common.{length, Option, None, ap, Bot, Server, Ending, Over, SessionState, coming, digits, InvalidToken}
 use Rattle.daide_io.specs.declared.ports.ClockEvent.TheVariants.{ImTimeIsOver, StopIsRequested}
 use Rattle.daide_protocol.specs.Machine.{ending_in}
 use Rattle.daide_protocol.specs.Summary.{reduced}
 use Rattle.daide_protocol.specs.declared.ending.Ending.TheVariants as Endings
-use Rattle.daide_log.specs.Explained.{Part, unfinished_parts, IncompleteFramesAreListed}
+use Rattle.daide_log.specs.Explained.{Part, fault_lines, unfinished_parts, IncompleteFramesAreListed, InvalidTokensAreShown}
 use Rattle.daide_log.specs.Log.{IsReportBy, IsReport, Opening, ReportsBy}
 use Rattle.daide_log.specs.RecordItem.{record_text}
 use Rattle.daide_log.specs.RecordLaw.{HasBegun, HasItems, IsReported, PortsAreRecorded, RecordsAreReported, notes_reported}
@@ -81,3 +81,12 @@ after_an_em law state is pending =
     (λ code other. absurd (let e : ◌≡◌ {A = Option Ending} (Some (Endings.Error Bot)) (Some (Endings.Fault Server code)) =
     sym (ap ending_in is) ∙ other in cc)) in
     (listed.0, listed.1, listed.2, listed.3, listed.5, listed.6 ∙ ap length pending)
+
+-- the first token of a message, and the third
+invalid_tokens : InvalidTokensAreShown →
+    (fault_lines 512 InvalidToken (2 ∷ 0 ∷ 0 ∷ 2 ∷ 0x58 ∷ 0 ∷ []) ≡ codes "invalid token\nbytes: 58 00 at token 0\n")
+    × (fault_lines 512 InvalidToken (2 ∷ 0 ∷ 0 ∷ 6 ∷ 0x48 ∷ 3 ∷ 0x40 ∷ 0 ∷ 0x60 ∷ 0x0F ∷ [])
+    ≡ codes "invalid token\nbytes: 60 0F at token 2\n")
+unfolding digits
+invalid_tokens law =
+    (law 512 0 0x58 0 (2 ∷ 0 ∷ 0 ∷ 2 ∷ []) [] refl refl, law 512 2 0x60 0x0F (2 ∷ 0 ∷ 0 ∷ 6 ∷ []) (0x48 ∷ 3 ∷ 0x40 ∷ 0 ∷ []) refl refl)

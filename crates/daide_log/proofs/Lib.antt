@@ -9,6 +9,7 @@ pub mod PageLines
 pub mod TextLemmas
 pub mod PartLemmas
 pub mod UnfinishedLemmas
+pub mod TokenLemmas
 pub mod PlayLemmas
 pub mod LimitBounds
 pub mod MadeLemmas

@@ -1,7 +1,7 @@
 -- The report of a log with explanations. It has the text of each message; for a refused one also the level at which it
 -- was judged, its answer and the reason; the name and the bytes of each fault; the comments of the log; and at the end
 -- each incomplete frame. All these lines but the comments begin with four spaces. (own)
-use Rattle.std.specs.Prelude.{◌≡◌, ◌≢◌, ℕ, ◌+◌, ◌-◌, ◌/◌, ◌==◌, ◌&&◌, nat_lt, get_or, replicate, slice_set, Bool, true, false, if◌then◌else◌, List, [], ◌∷◌, ◌++◌}
+use Rattle.std.specs.Prelude.{◌≡◌, ◌≢◌, ℕ, ◌+◌, ◌-◌, ◌*◌, ◌/◌, ◌==◌, ◌&&◌, nat_lt, get_or, replicate, slice_set, Bool, true, false, if◌then◌else◌, List, [], ◌∷◌, ◌++◌}
 use Rattle.std.specs.Prelude.{codes, length, take, drop, Option, Some, None, is_some}
 use Rattle.std.specs.Fmt.{decimal}
 use Rattle.daide_token.specs.Token.{tokens_of}
@@ -10,6 +10,7 @@ use Rattle.daide_token.specs.Text.{text_with}
 use Rattle.daide_frame.specs.declared.side.Side.{Side}
 use Rattle.daide_frame.specs.declared.side.Side.TheVariants.{Bot, Server}
 use Rattle.daide_frame.specs.declared.code.Code.{Code}
+use Rattle.daide_frame.specs.declared.code.Code.TheVariants.{InvalidToken}
 use Rattle.daide_frame.specs.Code.{code_number}
 use Rattle.daide_frame.specs.Frames.{announced, head_in}
 use Rattle.daide_grammar.specs.Level.{level_number}
@@ -161,6 +162,14 @@ faulty_bytes code bytes = if code_number code == 0x0E then token_line bytes else
 
 abbrev pub fault_lines : ℕ → Code → List ℕ → List ℕ
 fault_lines cap code bytes = with_line_feed (fault_name cap code bytes) ++ faulty_bytes code bytes
+
+-- After a header and `count` other tokens, the lines for an invalid token are its name, its own two bytes, and `count`.
+abbrev pub InvalidTokensAreShown : Type 0
+InvalidTokensAreShown =
+    (cap count high low : ℕ) (header before : List ℕ) → length header ≡ 4 → length before ≡ 2 * count →
+    fault_lines cap InvalidToken (header ++ before ++ high ∷ low ∷ [])
+    ≡ with_line_feed (codes "invalid token") ++ with_line_feed (codes "bytes: "
+    ++ (digits_of_byte high ++ 32 ∷ digits_of_byte low) ++ codes " at token " ++ decimal count)
 
 -- ---- a move
 

@@ -7,7 +7,7 @@ ghost use Rattle.daide_protocol.specs.declared.config.Config.{Config};
 ghost use Rattle.daide_protocol.specs.declared.summary.Summary.{Summary};
 ghost use Rattle.daide_log.specs.ConfigLine.{config_of_line, match_config_of_line};
 ghost use Rattle.daide_log.specs.declared.config_line.MatchConfig.{MatchConfig};
-ghost use Rattle.daide_log.specs.Explained.{IncompleteFramesAreListed};
+ghost use Rattle.daide_log.specs.Explained.{IncompleteFramesAreListed, InvalidTokensAreShown};
 ghost use Rattle.daide_log.specs.Laws.{SessionsAreAlone};
 ghost use Rattle.daide_log.specs.Log.{IsReport, plain};
 ghost use Rattle.daide_log.specs.Progress.{HasFault, IsInTime};
@@ -83,4 +83,10 @@ pub fn config_lines_have_these_forms()
 /// after an EM or an FM, a lost wire, a stop, and a fault of the other side. Only a fault of that side leaves it out.
 pub fn incomplete_frames_are_listed()
     ensures { IncompleteFramesAreListed }
+{}
+
+/// An invalid token is shown by its own two bytes, and by the number of tokens before it in its message: the first one
+/// is `at token 0`.
+pub fn invalid_tokens_are_shown()
+    ensures { InvalidTokensAreShown }
 {}
