@@ -3,18 +3,23 @@
 A stand-in for the compiler returns the tested program, and counts its calls.
 """
 
+import contextlib
 import os
 import pathlib
 import re
 import shlex
 import shutil
 import signal
+import socket
 import subprocess
 import tempfile
 import time
 
+from frames import FM, IM, RM, YES
+from growths import compiled
 from held import SIGNALS, Wrong, same, take_signals
 from runs import SECONDS, TOP
+from stage import HOST, free_port
 
 # Replaces scripts/unproved-program. It waits as long as there is a file `wait`, and fails if there is a file `fail`.
 COMPILER = """\
@@ -43,6 +48,21 @@ run) echo "$$" >"$0.began" && exec sleep 60 ;;
 stop) exit 1 ;;
 esac
 """
+
+# A run with a control socket, in the folder of the file.
+SETTINGS = """\
+listen = '127.0.0.1:{}'
+server = '127.0.0.1:{}'
+control = '{}/c'
+endless = true
+stall_seconds = 11
+"""
+
+# The longest that the script waited for a run before, in seconds.
+WAITED = 10
+
+# A program whose run sends the script the signal of its last word at once, and never listens.
+EAGER = DEAF.replace("run) echo", "run) shift $(($# - 1)); kill -s $1 $PPID; echo")
 
 KEPT = "daide-gate-unproved"
 GOF = "02 00 00 02 48 03\n"
@@ -92,13 +112,13 @@ class Clone:
             self.writes(self.bin / "daide-gate", text)
         (self.bin / "daide-gate.kind").write_text("proved at commit 0\n", encoding="utf-8")
 
-    def begin(self, *words, tools=None, limit="-c 0"):
-        """Begins a command in the folder above the clone, with a limit as `ulimit` takes it."""
+    def begin(self, *words, tools=None, limit="-c 0", **more):
+        """Begins a command in the folder above the clone, with a limit as `ulimit` takes it, and further variables."""
         path = f"{tools or self.top / 'tools'}:/usr/bin:/bin"
         return subprocess.Popen(
             ["sh", "-c", f'ulimit {limit} && exec "$@"', "sh", self.top / "daide-gate", *words], cwd=self.room.name,
             text=True, stdin=subprocess.PIPE, stdout=subprocess.PIPE, stderr=subprocess.PIPE,
-            env={**os.environ, "PATH": path}, preexec_fn=take_signals,
+            env={**os.environ, "PATH": path, **more}, preexec_fn=take_signals,
         )
 
     def run(self, *words, given="", **how):
@@ -321,6 +341,73 @@ def signal_before_a_run_listens_ends_it(program):
             same(pathlib.Path(f"/proc/{run}").exists(), False, f"the run is there after {number.name}")
 
 
+def signal_as_a_run_begins_ends_it(program):
+    """The program sends each signal to the script before that knows the number of the program."""
+    with Clone(program) as clone:
+        clone.has_proved(EAGER)
+        slow = compiled(clone.room.name, "slow_fork.c")
+        for number in SIGNALS:
+            words = ("run", clone.top / "HANDLES", number.name.removeprefix("SIG"))
+            with clone.begin(*words, LD_PRELOAD=str(slow)) as process:
+                process.communicate(timeout=SECONDS)
+            run = int((clone.bin / "daide-gate.began").read_text(encoding="utf-8"))
+            is_left = pathlib.Path(f"/proc/{run}").exists()
+            if is_left:
+                os.kill(run, signal.SIGKILL)
+            same((process.returncode, is_left), (128 + signal.SIGKILL, False), f"the status at {number.name}, and what is left")
+
+
+def fill(stream, frame):
+    """Sends a frame again and again until the stream has taken no byte for half a second."""
+    frames, sent = frame * 1000, 0
+    stream.setblocking(False)
+    last = time.monotonic()
+    while time.monotonic() < last + 0.5:
+        try:
+            sent = (sent + stream.send(frames[sent:])) % len(frames)
+            last = time.monotonic()
+        except BlockingIOError:
+            time.sleep(0.01)
+
+
+def script_waits_for_a_bot_that_reads_nothing(program):
+    """After a signal the other session gets an FM at once. The script waits until the stall timeout of this one is over,
+    and both lines have the operator as the cause."""
+    with contextlib.ExitStack() as ends:
+        clone = ends.enter_context(Clone(program))
+        clone.has_proved()
+        server = ends.enter_context(socket.create_server((HOST, 0)))
+        port = free_port()
+        settings = pathlib.Path(clone.room.name) / "settings.toml"
+        settings.write_text(SETTINGS.format(port, server.getsockname()[1], clone.room.name), encoding="utf-8")
+        process = ends.enter_context(clone.begin("run", "--verbose", settings))
+        ends.callback(process.kill)
+        same(process.stdout.readline(), "listening\n", "printed by the run")
+        pairs = []
+        for _ in range(2):
+            bot = ends.enter_context(socket.create_connection((HOST, port), SECONDS))
+            other = ends.enter_context(server.accept()[0])
+            bot.sendall(IM)
+            same(other.recv(len(IM), socket.MSG_WAITALL), IM, "received by the server")
+            other.sendall(RM)
+            same(bot.recv(len(RM), socket.MSG_WAITALL), RM, "received by the bot")
+            pairs.append((bot, other))
+        fill(pairs[0][1], YES)
+        begun = time.monotonic()
+        process.send_signal(signal.SIGTERM)
+        same(pairs[1][0].recv(len(FM) + 1), FM, "received by the other bot")
+        if time.monotonic() - begun > WAITED:
+            raise Wrong("the other bot waits for its FM")
+        for stream in pairs[1]:
+            stream.close()
+        told = process.communicate(timeout=SECONDS)[1]
+        same(process.returncode, 0, f"the status, told {told!r}")
+        if time.monotonic() - begun < WAITED:
+            raise Wrong(f"the run was over after {time.monotonic() - begun:.1f} s, so nothing was waited for")
+        causes = re.findall(r"session (\d) ended after [\d.]+ s: ([^;]*);", told)
+        same(causes, [("2", "stopped by the operator"), ("1", "stopped by the operator")], "the ends of the sessions")
+
+
 TESTS = [
     program_is_compiled_once,
     wrong_words_are_refused_before_the_compiler,
@@ -334,4 +421,6 @@ TESTS = [
     run_without_control_replaces_the_script,
     run_that_cannot_begin_has_its_status,
     signal_before_a_run_listens_ends_it,
+    signal_as_a_run_begins_ends_it,
+    script_waits_for_a_bot_that_reads_nothing,
 ]
