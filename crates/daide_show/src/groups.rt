@@ -9,7 +9,7 @@ use crate::frame_view::places::{is_blank, is_hex_digit};
 use std::fmt;
 
 /// A group of digits between blanks, with an odd number of digits.
-#[derive(Clone, Copy, Debug, PartialEq, Eq)]
+#[derive(Clone, Copy)]
 pub struct OddGroup {
     /// The number of the group, counted from 1.
     pub place: usize,

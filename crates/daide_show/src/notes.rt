@@ -22,7 +22,7 @@ use std::alloc::AllocError;
 use std::fmt;
 
 /// Why an input is not hexadecimal (the first three), or not one frame.
-#[derive(Clone, Copy, Debug, PartialEq, Eq)]
+#[derive(Clone, Copy)]
 pub enum InputNote {
     /// This byte, at this place counted from 1, is neither a hexadecimal digit nor dropped.
     BadByte(usize, u8),
