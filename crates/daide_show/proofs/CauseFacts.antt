@@ -1,7 +1,6 @@
 -- The values that are right for each field, and the body up to a fault, worked out from docs/PROTOCOL.md.
 use Rattle.daide_show.proofs.Common.{◌≡◌, true, false, [], ◌∷◌, ◌++◌, codes, map, replicate, refl, range_with_len, Im, Em}
-use Rattle.daide_show.proofs.Common.{longest_body, digits}
-use Rattle.std.specs.Fmt.{char_count, padded_integral}
+use Rattle.daide_show.proofs.Common.{longest_body}
 use Rattle.daide_token.specs.Class.{is_known_category}
 use Rattle.daide_frame.specs.declared.code.Code.TheVariants.{WrongEndian, WrongMagic, WrongVersion, UnknownMessage}
 use Rattle.daide_frame.specs.declared.code.Code.TheVariants.{WrongLength, InvalidToken}
@@ -9,7 +8,6 @@ use Rattle.daide_frame.specs.Frames.{is_alien}
 use Rattle.daide_frame.specs.Head.{has_right_length}
 use Rattle.daide_io.specs.declared.fault_field.FaultField.TheVariants.{Kind, Length, Version, MagicNumber, Token}
 use Rattle.daide_show.specs.Cause.{expected_value, faulty_body}
-use Rattle.daide_show.specs.Shown.{frame_fault_lines}
 
 -- a length by the type of the header, unless it is above the cap
 lengths : (expected_value WrongLength (0 ∷ 0 ∷ 0 ∷ 6 ∷ []) (Length 6) ≡ codes "0004")
@@ -42,12 +40,3 @@ bodies : (faulty_body InvalidToken (0x48 ∷ 3 ∷ 0x60 ∷ 0 ∷ 0x61 ∷ 0 ∷
     × (faulty_body WrongLength (0x60 ∷ 0 ∷ []) ≡ [])
 unfolding is_alien
 bodies = (refl, refl, refl)
-
--- an invalid token is shown by its own bytes, at its own place, also if it is the first token; the next one is not shown
-invalid_tokens :
-    (frame_fault_lines longest_body InvalidToken (2 ∷ 0 ∷ 0 ∷ 4 ∷ 0x58 ∷ 0 ∷ 0x60 ∷ 0 ∷ [])
-    ≡ codes "invalid token 5800 at byte 4\nexpected: 0000 to 4BFF, or 5000 to 57FF\n")
-    × (frame_fault_lines longest_body InvalidToken (2 ∷ 0 ∷ 0 ∷ 6 ∷ 0x48 ∷ 3 ∷ 0x60 ∷ 1 ∷ 0x58 ∷ 0 ∷ [])
-    ≡ codes "invalid token 6001 at byte 6\nexpected: 0000 to 4BFF, or 5000 to 57FF\n")
-unfolding frame_fault_lines is_alien char_count digits padded_integral
-invalid_tokens = (refl, refl)

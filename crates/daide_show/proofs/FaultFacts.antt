@@ -1,5 +1,5 @@
 -- Which faults two inputs have, and what each fault says, worked out from docs/FORMATS.md.
-use Rattle.daide_show.proofs.Common.{◌≡◌, Result, Ok, Err, codes, refl, decode_pairs, digits, Bot, L0, NotHex, TooLong}
+use Rattle.daide_show.proofs.Common.{◌≡◌, Result, Ok, Err, codes, decode_pairs, digits, Bot, L0, NotHex, TooLong}
 use Rattle.daide_show.proofs.Common.{NotOneFrame, ShowFault}
 use Rattle.daide_frame.specs.Frames.{first_items}
 use Rattle.daide_frame.specs.Head.{parse_head}

@@ -9,6 +9,7 @@ pub mod OddGroups
 pub mod NoteLemmas
 pub mod Separators
 pub mod FaultLines
+pub mod InvalidTokens
 mod InputFacts
 mod CauseFacts
 mod FaultFacts

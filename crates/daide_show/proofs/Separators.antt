@@ -7,8 +7,8 @@ use Rattle.daide_show.specs.declared.frame_view.places.Place.TheVariants.{Outsid
 use Rattle.daide_show.specs.declared.frame_view.places.InputByte.{InputByte}
 use Rattle.daide_show.specs.declared.frame_view.places.InputByte.TheVariants.{Nothing, Kept}
 use Rattle.daide_show.specs.Input.{are_pairs, first_byte_passes, digits_after_x, digits_of_input_byte}
-use Rattle.daide_show.specs.Input.{is_ordinary, is_quote, is_separator, is_x, next_place, opens_bare}
-use Rattle.daide_show.specs.Input.{opens_escape, opens_prefix, opens_quoted, input_byte, following_place}
+use Rattle.daide_show.specs.Input.{is_ordinary, is_quote, is_separator, is_x, next_place}
+use Rattle.daide_show.specs.Input.{opens_escape, opens_prefix, input_byte, following_place}
 use Rattle.hex.specs.Hex.{is_hex_digit}
 
 both : (a b : Bool) → (a && b) ≡ true → (a ≡ true) × (b ≡ true)

@@ -2,6 +2,7 @@
 //! here is called.
 
 ghost use Rattle.std.specs.Prelude.{◌≡◌, ◌++◌, [], ◌∷◌, Result, Ok, Err, Some, None, codes, true};
+ghost use Rattle.daide_frame.specs.declared.code.Code.TheVariants.{InvalidToken};
 ghost use Rattle.daide_frame.specs.declared.side.Side.TheVariants.{Bot};
 ghost use Rattle.daide_grammar.specs.declared.level.Level.TheVariants.{L0};
 ghost use Rattle.daide_reader.specs.declared.verdict.Verdict.TheVariants.{Huh};
@@ -9,7 +10,7 @@ ghost use Rattle.daide_show.specs.declared.frame_view.ShowFault.{ShowFault};
 ghost use Rattle.daide_show.specs.declared.frame_view.ShowFault.TheVariants.{NotHex};
 ghost use Rattle.daide_show.specs.Input.{digits_of};
 ghost use Rattle.daide_show.specs.Note.{noted_fault};
-ghost use Rattle.daide_show.specs.Shown.{IsShownAs, Shown, plain_request, verdict_lines};
+ghost use Rattle.daide_show.specs.Shown.{IsShownAs, Shown, frame_fault_lines, plain_request, verdict_lines};
 
 use crate::laws;
 
@@ -56,4 +57,14 @@ fn answer_at_a_message()
         ≡ codes "HUH at 1" ++ 10 ∷ codes "HUH ( OBS ERR GOF )" ++ 10 ∷ [] }
 {
     laws::shown_answers_are_those_sent();
+}
+
+/// Of two invalid tokens the first one is explained, also if it is the first token of its message.
+fn invalid_token_at_two_frames()
+    ensures first { frame_fault_lines 512 InvalidToken (2 ∷ 0 ∷ 0 ∷ 4 ∷ 0x58 ∷ 0 ∷ 0x60 ∷ 0 ∷ [])
+        ≡ codes "invalid token 5800 at byte 4" ++ 10 ∷ codes "expected: 0000 to 4BFF, or 5000 to 57FF" ++ 10 ∷ [] }
+    ensures later { frame_fault_lines 512 InvalidToken (2 ∷ 0 ∷ 0 ∷ 6 ∷ 0x48 ∷ 3 ∷ 0x60 ∷ 1 ∷ 0x58 ∷ 0 ∷ [])
+        ≡ codes "invalid token 6001 at byte 6" ++ 10 ∷ codes "expected: 0000 to 4BFF, or 5000 to 57FF" ++ 10 ∷ [] }
+{
+    laws::invalid_token_is_explained();
 }

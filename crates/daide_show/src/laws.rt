@@ -1,17 +1,22 @@
 //! What holds of the definitions by themselves.
 
-ghost use Rattle.std.specs.Prelude.{◌≡◌, ℕ, ◌++◌, false, true, List, Result, filter, not, option_map};
+ghost use Rattle.std.specs.Prelude.{◌≡◌, ◌≤◌, ◌+◌, ◌*◌, ℕ, [], ◌∷◌, ◌++◌, codes, false, true, length, List, None, Result, filter, not, option_map};
+ghost use Rattle.std.specs.Fmt.{decimal};
+ghost use Rattle.std.specs.Int.{w16, from_be_bytes};
 ghost use Rattle.std.specs.List.{list_all};
 ghost use Rattle.daide_token.specs.Token.{tokens_of};
+ghost use Rattle.daide_frame.specs.declared.code.Code.TheVariants.{InvalidToken};
 ghost use Rattle.daide_frame.specs.declared.side.Side.{Side};
+ghost use Rattle.daide_frame.specs.Frames.{first_alien, is_alien};
 ghost use Rattle.daide_grammar.specs.declared.level.Level.{Level};
 ghost use Rattle.daide_words.specs.declared.word.Word.{Word};
 ghost use Rattle.daide_reader.specs.declared.verdict.Verdict.{Verdict};
 ghost use Rattle.daide_protocol.specs.Answers.{answer_body};
+ghost use Rattle.daide_io.specs.FaultField.{padded_hex};
 ghost use Rattle.daide_show.specs.declared.frame_view.ShowFault.{ShowFault};
 ghost use Rattle.daide_show.specs.Input.{digits_of, is_ordinary, is_separator};
 ghost use Rattle.daide_show.specs.Note.{fault_of_note, input_note_of, noted_fault};
-ghost use Rattle.daide_show.specs.Shown.{ShowRequest, OnlyAdds, Shown, IsShownAs, is_relay, line, printed};
+ghost use Rattle.daide_show.specs.Shown.{ShowRequest, OnlyAdds, Shown, IsShownAs, frame_fault_lines, is_relay, line, printed};
 ghost use Rattle.daide_show.specs.Shown.{verdict_lines, verdict_name};
 
 use daide_explain::laws::explained_in_one_way;
@@ -52,4 +57,14 @@ pub fn shown_answers_are_those_sent()
     ensures { (words : List Word) (body : List ℕ) (verdict : Verdict) → is_relay verdict ≡ false →
         verdict_lines words verdict body
         ≡ line (verdict_name verdict) ++ line (printed words (tokens_of (answer_body body verdict))) }
+{}
+
+/// An invalid token is explained by its value and its place, and so is the first token of a message: at byte 4. Neither
+/// the tokens before it, all of known categories, nor what follows it change the lines.
+pub fn invalid_token_is_explained()
+    ensures { (cap count high low : ℕ) (header before after : List ℕ) → length header ≡ 4 →
+        length before ≡ 2 * count → first_alien before ≡ None → is_alien high low ≡ true → 2 * count + 2 ≤ cap →
+        frame_fault_lines cap InvalidToken (header ++ before ++ high ∷ low ∷ after)
+        ≡ line (codes "invalid token " ++ padded_hex 4 (from_be_bytes w16 (high ∷ low ∷ [])) ++ codes " at byte "
+        ++ decimal (4 + 2 * count)) ++ line (codes "expected: 0000 to 4BFF, or 5000 to 57FF") }
 {}
