@@ -171,7 +171,7 @@ module _ {T : Type 0} (table : Ghosts T) (words : Words) (first : Sym) (max_dept
       → stack_after (table.moves words) (table.class_of words t) old.stack ≡ Some new.stack
       → new.place ≡ None → new.unclosed ≡ count_one (is_bra t) (is_ket t) (Some n)
       → count_one (is_bra t) (is_ket t) (Some n) ≡ Some k
-      → m ≤ look_ups_at (nat_eq n max_depth) (table.moves words) (table.class_of words t)
+      → m ≤ look_ups_at (table.moves words) (table.class_of words t)
       (open_to (is_bra t) (nat_eq n max_depth) old.stack)
       → ReadsOne old new p t m
   reads_taken old new p t n k m at none here fits e still more counts few =
@@ -196,9 +196,9 @@ module _ {T : Type 0} (table : Ghosts T) (words : Words) (first : Sym) (max_dept
               ≡ Some (unwrap_or (count_one (is_bra t) (is_ket t) (Some i)) 0)) same count;
           none_left = λ some. let f = rw still at some in absurd cc;
         };
-        few = more_asked g.look_ups m _ (subst (λ (s : List Sym). m ≤ look_ups_at (nat_eq g.opened max_depth) moves class
+        few = more_asked g.look_ups m _ (subst (λ (s : List Sym). m ≤ look_ups_at moves class
             (open_to (is_bra t) (nat_eq g.opened max_depth) s)) at.same_stack
-            (subst (λ (i : ℕ). m ≤ look_ups_at (nat_eq i max_depth) moves class
+            (subst (λ (i : ℕ). m ≤ look_ups_at moves class
             (open_to (is_bra t) (nat_eq i max_depth) old.stack)) same few));
       }
 
@@ -208,7 +208,7 @@ module _ {T : Type 0} (table : Ghosts T) (words : Words) (first : Sym) (max_dept
       → ((is_bra t ≡ true) × (n ≡ max_depth))
       ⊎ (stack_after (table.moves words) (table.class_of words t) old.stack ≡ None)
       → new.place ≡ Some i → new.stack ≡ []
-      → m ≤ look_ups_at (nat_eq n max_depth) (table.moves words) (table.class_of words t)
+      → m ≤ look_ups_at (table.moves words) (table.class_of words t)
       (open_to (is_bra t) (nat_eq n max_depth) old.stack)
       → ReadsOne old new p t m
   reads_refused old new p t n i m at none here why placed empty few =
@@ -228,9 +228,9 @@ module _ {T : Type 0} (table : Ghosts T) (words : Words) (first : Sym) (max_dept
           same_count = λ no_place. let f = sym placed ∙ no_place in absurd cc;
           none_left = λ _. empty;
         };
-        few = more_asked g.look_ups m _ (subst (λ (s : List Sym). m ≤ look_ups_at (nat_eq g.opened max_depth) moves class
+        few = more_asked g.look_ups m _ (subst (λ (s : List Sym). m ≤ look_ups_at moves class
             (open_to (is_bra t) (nat_eq g.opened max_depth) s)) at.same_stack
-            (subst (λ (i : ℕ). m ≤ look_ups_at (nat_eq i max_depth) moves class
+            (subst (λ (i : ℕ). m ≤ look_ups_at moves class
             (open_to (is_bra t) (nat_eq i max_depth) old.stack)) same few));
       }
     where
@@ -345,17 +345,17 @@ module _ {T : Type 0} (table : Ghosts T)
 
   -- the look-ups for a token at a reader's stack
   abbrev pub asked_at : Reading T → ℕ → ℕ → ℕ
-  asked_at old n t = look_ups_at (nat_eq n old.max_depth) (table.moves (table.words old.table))
+  asked_at old n t = look_ups_at (table.moves (table.words old.table))
       (table.class_of (table.words old.table) t) (open_to (is_bra t) (nat_eq n old.max_depth) old.stack)
 
   asked_along : (old : Reading T) (n t m : ℕ) → table.words old.table ≡ words → old.max_depth ≡ max_depth
       → m ≤ asked_at old n t
-      → m ≤ look_ups_at (nat_eq n max_depth) (table.moves words) (table.class_of words t)
+      → m ≤ look_ups_at (table.moves words) (table.class_of words t)
       (open_to (is_bra t) (nat_eq n max_depth) old.stack)
   asked_along old n t m words_kept depth_kept few =
-      subst (λ (d : ℕ). m ≤ look_ups_at (nat_eq n d) (table.moves words) (table.class_of words t)
+      subst (λ (d : ℕ). m ≤ look_ups_at (table.moves words) (table.class_of words t)
       (open_to (is_bra t) (nat_eq n d) old.stack)) depth_kept
-      (subst (λ (w : Words). m ≤ look_ups_at (nat_eq n old.max_depth) (table.moves w) (table.class_of w t)
+      (subst (λ (w : Words). m ≤ look_ups_at (table.moves w) (table.class_of w t)
       (open_to (is_bra t) (nat_eq n old.max_depth) old.stack)) words_kept few)
 
   -- a symbol took the token

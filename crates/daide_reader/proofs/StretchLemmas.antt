@@ -1,18 +1,18 @@
 -- A reader in locals, inside a token of a body.
 use Rattle.daide_reader.proofs.Common.{◌≡◌, ◌≢◌, ℕ, zero, suc, ◌+◌, ◌-◌, ◌*◌, ◌%◌, ◌^◌, ◌≤◌, ◌<◌, Bool, true, false}
 use Rattle.daide_reader.proofs.Common.{◌⊎◌, inr, List, [], ◌∷◌, ◌++◌, length, take, drop, reverse, Option, Some, None}
-use Rattle.daide_reader.proofs.Common.{IfSome, nat_eq, if◌then◌else◌, refl, sym, ap, ◌∙◌, subst, arith, append_assoc}
+use Rattle.daide_reader.proofs.Common.{◌&&◌, is_some, IfSome, nat_eq, if◌then◌else◌, refl, sym, ap, ◌∙◌, subst, arith, append_assoc}
 use Rattle.daide_reader.proofs.Common.{nat_tests, unwrap_or, tokens_of, Class, TableEntry, Take, Skip, Stop, is_bra}
 use Rattle.daide_reader.proofs.Common.{is_ket, count_one, IsCorrectPrediction, begins_with_prn, is_take, is_stop}
 use Rattle.daide_reader.proofs.Common.{rest_of, stack_after, Words, Ghosts, Sym, outline_of, HasReadPrefix, reading}
 use Rattle.daide_reader.proofs.Common.{ReadsTo, SliceState, place_behind, below_zero, open_count, steps_at}
-use Rattle.daide_token.specs.Class.{class_of}
+use Rattle.daide_token.specs.Class.{class_of, is_standard}
 use Rattle.daide_grammar.specs.Table.Numbers.{bracket_step}
 use Rattle.daide_reader.specs.LookUps.{look_ups_at, open_to, second_look_up}
 use Rattle.daide_reader.specs.Reading.{IsRaised}
 use Rattle.daide_grammar.proofs.BracketSteps.{step_by_class}
 use Rattle.daide_reader.proofs.Counts.{none_more}
-use Rattle.daide_reader.proofs.CellLemmas.{after_skipped, after_taken, steps_skipped, steps_taken}
+use Rattle.daide_reader.proofs.CellLemmas.{after_skipped, after_stopped, after_taken, steps_skipped, steps_taken}
 use Rattle.daide_reader.proofs.ReadingLemmas.{below_limit, counts_more, few_steps, raised_by, raised_more, raised_none, room_more}
 use Rattle.daide_reader.proofs.SliceLemmas.{count_is, counts_up, front_not_prn_behind, length_behind, open_told}
 use Rattle.daide_reader.proofs.SliceLemmas.{run_refused, run_taken}
@@ -50,23 +50,17 @@ one_more false true (suc n) j e = let same : n ≡ j = cc in omega (arith, same)
 one_more false false n j e = let same : n ≡ j = cc in omega (arith, same)
 
 -- at most one more look-up
-most_once : (n more : ℕ) (at_limit : Bool) (stack : List Sym) → more ≤ second_look_up at_limit stack → n + more ≤ n + 1
+most_once : (n more : ℕ) (own : Bool) (stack : List Sym) → more ≤ second_look_up own stack → n + more ≤ n + 1
 most_once n more true [] few = omega arith
 most_once n more false [] few = omega arith
 most_once n more true (s ∷ stack) few = omega arith
 most_once n more false (s ∷ stack) few = omega arith
 
--- below the depth limit a symbol may be looked up once more
-pub once_below : (opened max_depth : ℕ) → opened < max_depth → 1 ≤ (if nat_eq opened max_depth then 0 else 1)
-once_below opened max_depth less =
-    let no : nat_eq opened max_depth ≡ false = grind (arith, nat_tests) in
-    rw no (omega arith)
-
-second_lower : (at_limit : Bool) (lower upper : List Sym) → length lower ≤ length upper
-    → second_look_up at_limit lower ≤ second_look_up at_limit upper
-second_lower at_limit [] upper h = omega arith
-second_lower at_limit (s ∷ lower) [] h = absurd (omega arith)
-second_lower at_limit (s ∷ lower) (u ∷ upper) h = omega arith
+second_lower : (own : Bool) (lower upper : List Sym) → length lower ≤ length upper
+    → second_look_up own lower ≤ second_look_up own upper
+second_lower own [] upper h = omega arith
+second_lower own (s ∷ lower) [] h = absurd (omega arith)
+second_lower own (s ∷ lower) (u ∷ upper) h = omega arith
 
 -- a token at the depth limit is looked up once, and a bracket not at all
 pub few_at_limit : (moves : Sym → Class → TableEntry) (class : Class) (opens : Bool) (stack : List Sym) (n : ℕ)
@@ -76,7 +70,7 @@ few_at_limit moves class false stack n few = omega (arith, few)
 
 pub once_at_limit : (moves : Sym → Class → TableEntry) (class : Class) (opens : Bool) (stack : List Sym)
     (opened max_depth n : ℕ) → opened ≡ max_depth → n ≤ steps_at moves class (open_to opens true stack)
-    → n ≤ look_ups_at (nat_eq opened max_depth) moves class (open_to opens (nat_eq opened max_depth) stack)
+    → n ≤ look_ups_at moves class (open_to opens (nat_eq opened max_depth) stack)
 once_at_limit moves class opens stack opened max_depth n deep few =
     let limit : nat_eq opened max_depth ≡ true = grind (arith, nat_tests) in
     rw limit (omega (arith, few))
@@ -126,22 +120,32 @@ module _ {T : Type 0} (table : Ghosts T)
   abbrev due_at : SliceState T → ℕ → List Sym → ℕ
   due_at now t stack = steps_at (table.moves (table.words now.table)) (table.class_of (table.words now.table) t) stack
 
+  -- whether a token takes no second look-up
+  abbrev own_at : ℕ → SliceState T → Bool
+  own_at t now = is_standard (table.class_of (table.words now.table) t) && is_some (after_at now t now.stack)
+
   -- a token needs the look-ups in its bound, and one more if the symbol that stopped it is looked up again
   abbrev AsksFor : ℕ → ℕ → SliceState T → SliceState T → Type 0
-  AsksFor opened t now new = (more : ℕ) × (more ≤ second_look_up (nat_eq opened max_depth) now.stack)
+  AsksFor opened t now new = (more : ℕ) × (more ≤ second_look_up (own_at t now) now.stack)
       × (table.asked new.table % 2 ^ 64 ≡ (table.asked now.table + (due_at now t now.stack + more)) % 2 ^ 64)
 
   -- the look-ups of a token that is read once
   abbrev once_at : ℕ → ℕ → SliceState T → ℕ
-  once_at opened t now = look_ups_at (nat_eq opened max_depth) (table.moves (table.words now.table))
+  once_at opened t now = look_ups_at (table.moves (table.words now.table))
       (table.class_of (table.words now.table) t) (open_to (is_bra t) (nat_eq opened max_depth) now.stack)
 
   once_asked : (opened t more : ℕ) (now start : SliceState T) → (is_bra t ≡ true → opened ≢ max_depth)
-      → length now.stack ≤ length start.stack → more ≤ second_look_up (nat_eq opened max_depth) now.stack
+      → table.words now.table ≡ table.words start.table → after_at start t start.stack ≡ after_at now t now.stack
+      → length now.stack ≤ length start.stack → more ≤ second_look_up (own_at t now) now.stack
       → due_at start t start.stack + more ≤ once_at opened t start
-  once_asked opened t more now start fits lower few =
+  once_asked opened t more now start fits words after lower few =
+      let own : own_at t now ≡ own_at t start =
+      ap (λ (w : Words). is_standard (table.class_of w t) && is_some (after_at now t now.stack)) words
+      ∙ ap (λ (o : Option (List Sym)). is_standard (table.class_of (table.words start.table) t) && is_some o) (sym after) in
+      let least : more ≤ second_look_up (own_at t start) now.stack =
+      subst (λ (b : Bool). more ≤ second_look_up b now.stack) own few in
       rw (below_limit (is_bra t) opened max_depth fits)
-      (both_more _ more _ _ few (second_lower (nat_eq opened max_depth) now.stack start.stack lower))
+      (both_more _ more _ _ least (second_lower (own_at t start) now.stack start.stack lower))
 
   -- the effect of a token that is taken
   pub record TakesToken (t opened after : ℕ) (now new : SliceState T) : Type 0 where
@@ -389,7 +393,7 @@ module _ {T : Type 0} (table : Ghosts T)
         taken = before.0 ∙ by_words ∙ taken;
         counted = counted;
         steps = (due_at start t start.stack + counts.0, most_once _ _ _ _ counts.1, omega (arith, asked, due, sum));
-        once = once_asked opened t counts.0 now start fits mid.lower counts.1;
+        once = once_asked opened t counts.0 now start fits mid.words (before.0 ∙ by_words) mid.lower counts.1;
       }
 
   pub refuses_token : (i opened end t : ℕ) (after : Option ℕ) (now new : SliceState T) → (mid : MidToken i opened end now)
@@ -413,7 +417,7 @@ module _ {T : Type 0} (table : Ghosts T)
         why = inr (before.0 ∙ by_words ∙ reject_at);
         counted = counted;
         steps = (due_at start t start.stack + counts.0, most_once _ _ _ _ counts.1, omega (arith, asked, due, sum));
-        once = once_asked opened t counts.0 now start fits mid.lower counts.1;
+        once = once_asked opened t counts.0 now start fits mid.words (before.0 ∙ by_words) mid.lower counts.1;
       }
 
   -- inside a token there is room, as there was at its start
@@ -484,6 +488,37 @@ module _ {T : Type 0} (table : Ghosts T)
   takes_on (Take rest) h = refl
   takes_on Skip h = refl
   takes_on Stop h = cc
+
+  -- a symbol stops the token, which is looked up once more
+  pub stops_once : (t : ℕ) (now : SliceState T) (s : Sym) (below : List Sym) → now.stack ≡ s ∷ below
+      → after_at now t now.stack ≡ None → 1 ≤ second_look_up (own_at t now) now.stack
+  stops_once t now s below top none =
+      rw (none, top) (go (is_standard (table.class_of (table.words now.table) t)))
+    where
+      go : (b : Bool) → 1 ≤ (if b && false then 0 else 1)
+      go true = omega arith
+      go false = omega arith
+
+  -- so is a word that a symbol takes
+  pub word_once : (t u : ℕ) (now : SliceState T) (s : Sym) (below after : List Sym) (a : TableEntry)
+      → now.stack ≡ s ∷ below → is_stop a ≡ true → u ≡ t
+      → (is_standard (table.class_of (table.words now.table) u) ≡ true
+      → a ≡ table.moves (table.words now.table) s (table.class_of (table.words now.table) u))
+      → after_at now t now.stack ≡ Some after → 1 ≤ second_look_up (own_at t now) now.stack
+  word_once t u now s below after a top stop same stops taken =
+      rw (taken, top) (go (is_standard class) refl)
+    where
+      class : Class
+      class = table.class_of (table.words now.table) t
+
+      go : (b : Bool) → is_standard class ≡ b → 1 ≤ (if b && true then 0 else 1)
+      go false own = omega arith
+      go true own =
+          let told = subst (λ (i : ℕ). is_standard (table.class_of (table.words now.table) i) ≡ true
+          → a ≡ table.moves (table.words now.table) s (table.class_of (table.words now.table) i)) same stops in
+          let none : after_at now t now.stack ≡ None =
+          ap (after_at now t) top ∙ after_stopped (table.moves (table.words now.table)) class s below a (sym (told own)) stop
+          in absurd cc
 
   -- by the protocol's own table
   pub took : (i opened end t after : ℕ) (now new : SliceState T) (s : Sym) (below : List Sym) (a : TableEntry)

@@ -316,11 +316,10 @@ impl<T: Predict, const N: usize> Reader<T, N> {
     ///
     /// `once`: each token is read once and in order, and none after the one at which the reader stops (`look_ups_for`). A
     /// token takes one look-up for each symbol that it skips, at most two, and one for the symbol that takes or stops it.
-    /// `predict_word` may look that symbol up once more. The end takes one for each symbol, up to the first that is not
-    /// nullable. A message that begins with PRN takes none.
+    /// Only an operator's word, and the token at which the reader stops, take one more, of `predict_word`. The end takes
+    /// one for each symbol, up to the first that is not nullable. A message that begins with PRN takes none.
     ///
-    /// Not said: that `predict_word` is called only if the protocol's own table stopped the token; how long an answer
-    /// takes.
+    /// Not said: how long an answer takes.
     pub fn steps(&self) -> u64
         ensures exact { result ≡ steps_since T.asked self.now }
         ensures steps { (words : Words) (first : Sym) (max_depth : ℕ) (p : List ℕ) →
