@@ -1,5 +1,5 @@
 -- One side: the frame being received, the progress of its parse, and its answer.
-use Rattle.std.specs.Prelude.{◌≡◌, ℕ, ◌+◌, ◌-◌, ◌*◌, ◌%◌, ◌^◌, ◌≤◌, false, nat_lt, List, [], ◌∷◌, ◌++◌, length, take}
+use Rattle.std.specs.Prelude.{◌≡◌, ℕ, ◌+◌, ◌-◌, ◌*◌, ◌%◌, ◌^◌, ◌≤◌, Bool, false, nat_lt, List, [], ◌∷◌, ◌++◌, length, take}
 use Rattle.std.specs.Prelude.{drop}
 use Rattle.std.specs.Prelude.{Option, Some, None, if◌then◌else◌}
 use Rattle.daide_frame.specs.declared.side.Side.{Side}
@@ -8,11 +8,13 @@ use Rattle.daide_frame.specs.Frames.{Cut, fed, head_in}
 use Rattle.daide_frame.specs.Head.{head_bytes}
 use Rattle.daide_grammar.specs.declared.level.Level.{Level}
 use Rattle.daide_grammar.specs.declared.predict.Predict.{Ghosts}
-use Rattle.daide_grammar.specs.Table.Symbols.{start_symbol_of}
+use Rattle.daide_grammar.specs.SideMessages.{dialect_of}
+use Rattle.daide_grammar.specs.Table.Symbols.{may_end_of, start_symbol_of}
 use Rattle.daide_grammar.specs.Words.{Words}
 use Rattle.daide_words.specs.declared.extended.Extended.{Extended}
 use Rattle.daide_words.specs.Table.Extended.{spoken_words}
-use Rattle.daide_words.specs.Table.OverWords.{spoken}
+use Rattle.daide_words.specs.Table.OverWords.{answer_over, spoken}
+use Rattle.daide_reader.specs.LookUps.{look_ups_for}
 use Rattle.daide_reader.specs.Reading.{Reading, HasReadPrefix}
 use Rattle.daide_reader.specs.declared.verdict.Verdict.{Verdict}
 use Rattle.daide_reader.specs.declared.verdict.Verdict.TheVariants.{Relay, Prn, Huh}
@@ -51,6 +53,12 @@ pub record Receiver : Type 0 where
 -- how many tokens of a message a piece completes, after these bytes of its frame
 abbrev pub tokens_ended : ℕ → List ℕ → List ℕ → ℕ
 tokens_ended cap frame_bytes piece = length (frame_tokens cap (fed cap frame_bytes piece)) - length (frame_tokens cap frame_bytes)
+
+-- the look-ups for a message from a side at a level, if each of its tokens is read once, and for its end if it has ended
+abbrev pub message_look_ups : ReaderLimits → Side → Level → List ℕ → Bool → ℕ
+message_look_ups rules side level tokens ended =
+    look_ups_for (answer_over rules.words) (dialect_of rules.words).class_of may_end_of
+    (start_symbol_of (side2_of side) level) rules.max_depth tokens ended
 
 -- ---- the answer in place
 

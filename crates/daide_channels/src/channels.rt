@@ -23,7 +23,7 @@ ghost use Rattle.daide_reader.specs.Reading.{IsRaised};
 ghost use Rattle.daide_words.specs.Word.{grammar_words};
 ghost use Rattle.daide_words.specs.Words.{words_of};
 ghost use Rattle.daide_frame.specs.PerSide.{at, put};
-ghost use Rattle.daide_channels.specs.Receiver.{tokens_ended};
+ghost use Rattle.daide_channels.specs.Receiver.{message_look_ups, tokens_ended};
 ghost use Rattle.daide_channels.specs.SendQueue.{most_queued};
 ghost use Rattle.daide_channels.specs.Channels.{pending, noted, side_holding, IsQuiet, Keeps, IsGrown, IsStarted};
 ghost use Rattle.daide_channels.specs.Channels.{IsAnswered, IsCleared, ReleasesFrames, posted, has_final_frame, final_frame_to};
@@ -246,6 +246,8 @@ impl<A: Allocator> Channels<A> {
         ensures value { result ≡ steps_of (side_holding self.now side) }
         ensures few { result ≤ message_steps (length (frame_tokens self.now.cap (side_holding self.now side).frame_bytes))
             (is_awaited (at self.now.queued) side) }
+        ensures once { result ≤ message_look_ups self.now.rules side (noted self.now side)
+            (frame_tokens self.now.cap (side_holding self.now side).frame_bytes) (is_awaited (at self.now.queued) side) }
     {
         self.receivers.at(side).steps()
     }

@@ -23,7 +23,7 @@ ghost use Rattle.daide_reader.specs.Reading.{IsRaised};
 ghost use Rattle.daide_words.specs.Word.{grammar_words};
 ghost use Rattle.daide_words.specs.Words.{words_of};
 ghost use Rattle.daide_channels.specs.Receiver.{StartsFrame, ReadsMessageBytes, Answers, whole_answer, front_after, front_in, steps_in};
-ghost use Rattle.daide_channels.specs.Receiver.{tokens_ended};
+ghost use Rattle.daide_channels.specs.Receiver.{message_look_ups, tokens_ended};
 
 use daide_frame::cutter::{Cutter, Step};
 use daide_frame::head::{Head, Kind, write_head};
@@ -384,6 +384,8 @@ impl<A: Allocator> Receiver<A> {
     pub fn steps(&self) -> u64
         ensures value { result ≡ steps_in self.now }
         ensures few { result ≤ message_steps (length (frame_tokens self.now.cap self.now.frame_bytes)) (is_some self.now.verdict) }
+        ensures once { result ≤ message_look_ups self.now.rules self.now.side self.now.level
+            (frame_tokens self.now.cap self.now.frame_bytes) (is_some self.now.verdict) }
     {
         self.reader.steps()
     }

@@ -4,9 +4,9 @@
 //! say that its results fit together, and a reader needs nothing else. `words` is what an operator added to the
 //! grammar. No call changes it, and every other clause depends on it.
 
-ghost use Rattle.std.specs.Prelude.{◌≡◌, ℕ, ◌+◌, ◌%◌, ◌^◌, ◌≤◌, ◌<◌, List, [], ◌∷◌, Bool, false, IfNone, IfSome, drop, length, reverse, take};
+ghost use Rattle.std.specs.Prelude.{◌≡◌, ℕ, ◌+◌, ◌%◌, ◌^◌, ◌≤◌, ◌<◌, List, [], ◌∷◌, Bool, true, false, IfNone, IfSome, drop, length, reverse, take};
 ghost use Rattle.daide_token.specs.declared.class.Class.{Class};
-ghost use Rattle.daide_token.specs.Class.{class_of as known_class};
+ghost use Rattle.daide_token.specs.Class.{class_of as known_class, is_standard};
 ghost use Rattle.daide_grammar.specs.declared.level.Level.{Level};
 ghost use Rattle.daide_grammar.specs.declared.side.Side2.{Side2};
 ghost use Rattle.daide_grammar.specs.declared.symbol.Sym.{Sym};
@@ -223,10 +223,13 @@ pub trait Predict {
         ensures counts_each_answer { asked self.new ≡ (asked self.old + 1) % 2 ^ 64 };
 
     /// Returns the entry for a symbol and a token, by the token's class in the protocol's own table. Unless it is a
-    /// `Stop`, it is the entry for the token. After a `Stop`, `predict_word` returns that entry.
+    /// `Stop`, it is the entry for the token. A `Stop` is too, unless the token is an operator's word. After a `Stop`,
+    /// `predict_word` returns the entry.
     fn predict_token(&mut self, sym: TopSymbol, token: Token, column: Column) -> Move
         requires { column ≡ known_class token }
         ensures answer { is_stop result ≡ false →
+            result ≡ moves (words self.old) sym (class_of (words self.old) token) }
+        ensures stops { is_standard (class_of (words self.old) token) ≡ true →
             result ≡ moves (words self.old) sym (class_of (words self.old) token) }
         ensures words_stay { words self.new ≡ words self.old }
         ensures counts_each_answer { asked self.new ≡ (asked self.old + 1) % 2 ^ 64 };

@@ -138,9 +138,6 @@ none_due asked due none = omega arith
 pub none_more : (asked due : ℕ) → due ≡ 0 → asked % 2 ^ 64 ≡ (asked + (due + 0)) % 2 ^ 64
 none_more asked due none = omega arith
 
-pub or_one_more : (n due : ℕ) → n ≤ due → n ≤ due + 1
-or_one_more n due few = omega arith
-
 -- a symbol that stopped a token is looked up once more
 pub once_more : (old mid new due due_then : ℕ) → due_then ≡ due → mid ≡ (old + 1) % 2 ^ 64
     → new % 2 ^ 64 ≡ (mid + due_then) % 2 ^ 64 → new % 2 ^ 64 ≡ (old + (due + 1)) % 2 ^ 64

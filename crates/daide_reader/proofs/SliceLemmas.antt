@@ -8,12 +8,15 @@ use Rattle.daide_reader.proofs.Common.{drop-length, take-length, tokens_of, Clas
 use Rattle.daide_reader.proofs.Common.{stack_after, IsCorrectPrediction, begins_with_prn, is_bra, is_ket}
 use Rattle.daide_reader.proofs.Common.{excess_or_none, count_one, Outline, below_zero, IsOutlineOf, with_token}
 use Rattle.daide_reader.proofs.Common.{outline_of, count_all, Reading, HasReadPrefix, StackOrPlace, IsSteady, reading}
-use Rattle.daide_reader.proofs.Common.{tokens_read, unwrap_or, open_count, place_behind, excess_or_none-snoc}
+use Rattle.daide_reader.proofs.Common.{◌&&◌, steps_since, tokens_read, unwrap_or, open_count, place_behind, excess_or_none-snoc}
 use Rattle.daide_token.specs.Token.{token_bytes}
 use Rattle.daide_token.proofs.TokenPlaces.{tokens_of-front}
 use Rattle.daide_reader.proofs.OutlineLemmas.{outline-snoc, same_outline, outline_of-is}
 use Rattle.daide_reader.proofs.ErrorPlaceLemmas.{place_kept}
-use Rattle.daide_reader.proofs.ReadingLemmas.{counted_now, counts_more, stands_report, stands_taken, stands_refused}
+use Rattle.daide_reader.specs.LookUps.{Parse, no_token_read, read_one, read_each, look_ups_for}
+use Rattle.daide_reader.specs.Reading.{IsParsed}
+use Rattle.daide_reader.proofs.ReadingLemmas.{asked_at, counted_now, counts_more, stands_report, stands_taken}
+use Rattle.daide_reader.proofs.ReadingLemmas.{stands_refused}
 
 -- a prefix of a list that does not begin with PRN does not begin with it either
 pub front_not_prn : (i : ℕ) (m : List ℕ) → begins_with_prn m ≡ false → begins_with_prn (take i m) ≡ false
@@ -65,14 +68,15 @@ module _ {T : Type 0} (table : Ghosts T)
       → table.lawful (table.words old) stack n → n ≤ max_depth → (is_bra t ≡ true → n ≢ max_depth)
       → stack_after (table.moves (table.words old)) (table.class_of (table.words old) t) stack ≡ Some after
       → count_one (is_bra t) (is_ket t) (Some n) ≡ Some k
-      → (m : ℕ) × (m ≤ 4) × (table.asked new % 2 ^ 64 ≡ (table.asked old + m) % 2 ^ 64)
+      → (steps : (m : ℕ) × (m ≤ 4) × (table.asked new % 2 ^ 64 ≡ (table.asked old + m) % 2 ^ 64))
+      → steps.0 ≤ asked_at table laws words first depth (reading old max_depth stack (outline_of p) (Some n) None base) n t
       → HasReadPrefix table words first depth (reading old max_depth stack (outline_of p) (Some n) None base) p
       → HasReadPrefix table words first depth (reading new max_depth after (outline_of (p ++ t ∷ [])) (Some k) None base)
       (p ++ t ∷ [])
-  run_taken old new max_depth stack after p t n k not_prn same ok deep fits advances counts steps h =
+  run_taken old new max_depth stack after p t n k not_prn same ok deep fits advances counts steps few h =
       stands_taken table laws words first depth
       (reading old max_depth stack (outline_of p) (Some n) None base)
-      (reading new max_depth after (outline_of (p ++ t ∷ [])) (Some k) None base) t n p
+      (reading new max_depth after (outline_of (p ++ t ∷ [])) (Some k) None base) t n k p
       (record {
         words_same = same;
         depth_same = refl;
@@ -81,10 +85,11 @@ module _ {T : Type 0} (table : Ghosts T)
         outline_more = outline_of-snoc p t;
         not_prn = not_prn;
         unclosed_more = sym counts;
+        unfinished = refl;
         steps_more = steps;
       })
       (record { no_place = refl; unclosed = refl; deep = deep; lawful_stack = ok })
-      fits advances refl h
+      fits advances refl counts few h
 
   pub run_refused : (old new : T) (max_depth : ℕ) (stack after : List Sym) (p : List ℕ) (t n i : ℕ)
       (unclosed : Option ℕ)
@@ -92,12 +97,13 @@ module _ {T : Type 0} (table : Ghosts T)
       → table.lawful (table.words old) stack n → n ≤ max_depth
       → ((is_bra t ≡ true) × (n ≡ max_depth)) ⊎
       (stack_after (table.moves (table.words old)) (table.class_of (table.words old) t) stack ≡ None)
-      → unclosed ≡ count_one (is_bra t) (is_ket t) (Some n) → i ≡ length p
-      → (m : ℕ) × (m ≤ 4) × (table.asked new % 2 ^ 64 ≡ (table.asked old + m) % 2 ^ 64)
+      → unclosed ≡ count_one (is_bra t) (is_ket t) (Some n) → i ≡ length p → after ≡ []
+      → (steps : (m : ℕ) × (m ≤ 4) × (table.asked new % 2 ^ 64 ≡ (table.asked old + m) % 2 ^ 64))
+      → steps.0 ≤ asked_at table laws words first depth (reading old max_depth stack (outline_of p) (Some n) None base) n t
       → HasReadPrefix table words first depth (reading old max_depth stack (outline_of p) (Some n) None base) p
       → HasReadPrefix table words first depth
       (reading new max_depth after (outline_of (p ++ t ∷ [])) unclosed (Some i) base) (p ++ t ∷ [])
-  run_refused old new max_depth stack after p t n i unclosed not_prn same ok deep why counts place steps h =
+  run_refused old new max_depth stack after p t n i unclosed not_prn same ok deep why counts place empty steps few h =
       stands_refused table laws words first depth
       (reading old max_depth stack (outline_of p) (Some n) None base)
       (reading new max_depth after (outline_of (p ++ t ∷ [])) unclosed (Some i) base) t n p
@@ -109,10 +115,37 @@ module _ {T : Type 0} (table : Ghosts T)
         outline_more = outline_of-snoc p t;
         not_prn = not_prn;
         unclosed_more = counts;
+        unfinished = refl;
         steps_more = steps;
       })
       (record { no_place = refl; unclosed = refl; deep = deep; lawful_stack = ok })
-      why (ap (λ (k : ℕ). Some k) place) h
+      why (ap (λ (k : ℕ). Some k) place) empty few h
+
+-- more tokens after some
+pub read_each-append : {T : Type 0} (table : Ghosts T) (words : Words) (max_depth : ℕ) (g : Parse) (p q : List ℕ)
+    → read_each (table.moves words) (table.class_of words) max_depth g (p ++ q)
+    ≡ read_each (table.moves words) (table.class_of words) max_depth (read_each (table.moves words) (table.class_of words) max_depth g p) q
+read_each-append table words max_depth g [] q = refl
+read_each-append table words max_depth g (t ∷ p) q =
+    read_each-append table words max_depth (read_one (table.moves words) (table.class_of words) max_depth g t) p q
+
+-- no look-up is made if no symbol is left
+pub read_each-empty : {T : Type 0} (table : Ghosts T) (words : Words) (max_depth : ℕ) (g : Parse) (q : List ℕ)
+    → g.stack ≡ []
+    → ((read_each (table.moves words) (table.class_of words) max_depth g q).stack ≡ []) × ((read_each (table.moves words) (table.class_of words) max_depth g q).look_ups ≡ g.look_ups)
+read_each-empty table words max_depth g [] none = (none, refl)
+read_each-empty table words max_depth g (t ∷ q) none =
+    let one = read_one-empty (is_bra t && nat_eq g.opened max_depth) in
+    let more = read_each-empty table words max_depth (read_one (table.moves words) (table.class_of words) max_depth g t) q one.0 in
+    (more.0, more.1 ∙ one.1)
+  where
+    closed : (b : Bool) → (if b then [] else g.stack) ≡ []
+    closed true = refl
+    closed false = none
+
+    read_one-empty : (b : Bool) → ((read_one (table.moves words) (table.class_of words) max_depth g t).stack ≡ [])
+        × ((read_one (table.moves words) (table.class_of words) max_depth g t).look_ups ≡ g.look_ups)
+    read_one-empty b = rw (closed (is_bra t && nat_eq g.opened max_depth)) (refl, omega arith)
 
 none_counted : (opens closes : Bool) → count_one opens closes None ≡ None
 none_counted true closes = refl
@@ -153,6 +186,8 @@ as_reading table words first depth n v p none here unfinished h = record {
   unclosed = sym here ∙ h.unclosed;
   place = λ e. rw none at (h.place e);
   steps = rw unfinished at h.steps;
+  at = λ e. rw (none, here) at (h.at e);
+  once = rw unfinished at h.once;
 }
 
 module _ {T : Type 0} (table : Ghosts T) (words : Words) (first : Sym) (max_depth : ℕ) where
@@ -169,6 +204,7 @@ module _ {T : Type 0} (table : Ghosts T) (words : Words) (first : Sym) (max_dept
     pub not_prn : new.outline.is_prn ≡ false
     pub unclosed_more : new.unclosed ≡ count_all old.unclosed q
     pub all_read : old.place ≡ None → q ≡ []
+    pub none_left : IsSome old.place → old.stack ≡ []
 
   plain_front : (p q : List ℕ) → begins_with_prn (p ++ q) ≡ false → begins_with_prn p ≡ false
   plain_front [] q h = refl
@@ -186,6 +222,8 @@ module _ {T : Type 0} (table : Ghosts T) (words : Words) (first : Sym) (max_dept
             (on.unclosed_more ∙ ap (λ (u : Option ℕ). count_all u q) before ∙ count_all-excess_or_none p q);
         place = λ _. rw (on.stack_same, on.place_same) (go old.place refl (h.place (plain_front p q plain)));
         steps = rw (on.table_same, on.asked_same, on.finished_same, length-append) (let few = h.steps in omega arith);
+        at = λ _. rw (on.stack_same, on.place_same) (at_on old.place refl);
+        once = rw (on.table_same, on.asked_same, on.finished_same) (once_on old.place refl);
       })
     where
       outline : IsOutlineOf new.outline (p ++ q)
@@ -197,6 +235,42 @@ module _ {T : Type 0} (table : Ghosts T) (words : Words) (first : Sym) (max_dept
       before : old.unclosed ≡ excess_or_none p
       before = counted_now old.unclosed p (plain_front p q plain) h.unclosed
 
+      g : Parse
+      g = read_each (table.moves words) (table.class_of words) max_depth (no_token_read first) p
+
+      here : IsParsed g old.stack old.unclosed old.place
+      here = h.at (plain_front p q plain)
+
+      empty : (i : ℕ) → old.place ≡ Some i → old.stack ≡ []
+      empty i is = on.none_left (rw is refl)
+
+      -- no look-up after the place
+      still : (i : ℕ) → old.place ≡ Some i
+          → ((read_each (table.moves words) (table.class_of words) max_depth (no_token_read first) (p ++ q)).stack ≡ [])
+          × ((read_each (table.moves words) (table.class_of words) max_depth (no_token_read first) (p ++ q)).look_ups ≡ g.look_ups)
+      still i is = rw (read_each-append table words max_depth (no_token_read first) p q)
+          (read_each-empty table words max_depth g q (sym here.same_stack ∙ empty i is))
+
+      at_on : (o : Option ℕ) → old.place ≡ o
+          → IsParsed (read_each (table.moves words) (table.class_of words) max_depth (no_token_read first) (p ++ q)) old.stack new.unclosed o
+      at_on None is =
+          let none = on.all_read is in
+          let count : new.unclosed ≡ old.unclosed =
+          on.unclosed_more ∙ ap (λ (r : List ℕ). count_all old.unclosed r) none in
+          rw (none, append-nil p, count) (rw is at here)
+      at_on (Some i) is = record {
+        same_stack = empty i is ∙ sym (still i is).0;
+        same_count = λ none. absurd cc;
+        none_left = λ _. empty i is;
+      }
+
+      once_on : (o : Option ℕ) → old.place ≡ o
+          → steps_since table.asked old ≤ look_ups_for (table.moves words) (table.class_of words) (table.ends words) first max_depth (p ++ q) old.finished
+      once_on None is = rw (on.all_read is, append-nil p) h.once
+      once_on (Some i) is =
+          let few = rw (plain_front p q plain, sym here.same_stack ∙ empty i is) at h.once in
+          rw (plain, (still i is).0, (still i is).1) few
+
       go : (o : Option ℕ) → old.place ≡ o → StackOrPlace (table.language words) first max_depth old.stack o p
           → StackOrPlace (table.language words) first max_depth old.stack o (p ++ q)
       go None is has = rw (on.all_read is, append-nil p) has
@@ -206,12 +280,12 @@ module _ {T : Type 0} (table : Ghosts T) (words : Words) (first : Sym) (max_dept
   pub stands_report_on : (old new : Reading T) (p q m : List ℕ) → p ++ q ≡ m → new.table ≡ old.table
       → new.max_depth ≡ old.max_depth → new.finished ≡ old.finished → new.asked_before ≡ old.asked_before
       → new.unclosed ≡ old.unclosed
-      → (IsOutlineOf old.outline p → IsOutlineOf new.outline m) → new.outline.is_prn ≡ true
+      → (IsOutlineOf old.outline p → IsOutlineOf new.outline m) → new.outline.is_prn ≡ true → old.finished ≡ false
       → HasReadPrefix table words first max_depth old p → HasReadPrefix table words first max_depth new m
-  stands_report_on old new p q m whole same depth_same finished_same asked_same unclosed_same more is_report h =
+  stands_report_on old new p q m whole same depth_same finished_same asked_same unclosed_same more is_report unfinished h =
       subst (λ (r : List ℕ). HasReadPrefix table words first max_depth new r) whole
       (stands_report table words first max_depth old new p q same depth_same finished_same asked_same unclosed_same
-      (λ o. subst (λ (r : List ℕ). IsOutlineOf new.outline r) (sym whole) (more o)) is_report h)
+      (λ o. subst (λ (r : List ℕ). IsOutlineOf new.outline r) (sym whole) (more o)) is_report unfinished h)
 
 -- the invariant holds with the outline of more tokens
 pub steady_on : (old_lawful lawful : List Sym → ℕ →

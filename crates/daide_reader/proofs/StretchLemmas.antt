@@ -1,18 +1,19 @@
 -- A reader in locals, inside a token of a body.
 use Rattle.daide_reader.proofs.Common.{◌≡◌, ◌≢◌, ℕ, zero, suc, ◌+◌, ◌-◌, ◌*◌, ◌%◌, ◌^◌, ◌≤◌, ◌<◌, Bool, true, false}
 use Rattle.daide_reader.proofs.Common.{◌⊎◌, inr, List, [], ◌∷◌, ◌++◌, length, take, drop, reverse, Option, Some, None}
-use Rattle.daide_reader.proofs.Common.{IfSome, nat_eq, if◌then◌else◌, refl, sym, ap, ◌∙◌, subst, arith, append_assoc}
+use Rattle.daide_reader.proofs.Common.{◌&&◌, is_some, IfSome, nat_eq, if◌then◌else◌, refl, sym, ap, ◌∙◌, subst, arith, append_assoc}
 use Rattle.daide_reader.proofs.Common.{nat_tests, unwrap_or, tokens_of, Class, TableEntry, Take, Skip, Stop, is_bra}
 use Rattle.daide_reader.proofs.Common.{is_ket, count_one, IsCorrectPrediction, begins_with_prn, is_take, is_stop}
 use Rattle.daide_reader.proofs.Common.{rest_of, stack_after, Words, Ghosts, Sym, outline_of, HasReadPrefix, reading}
 use Rattle.daide_reader.proofs.Common.{ReadsTo, SliceState, place_behind, below_zero, open_count, steps_at}
-use Rattle.daide_token.specs.Class.{class_of}
+use Rattle.daide_token.specs.Class.{class_of, is_standard}
 use Rattle.daide_grammar.specs.Table.Numbers.{bracket_step}
+use Rattle.daide_reader.specs.LookUps.{look_ups_at, open_to, second_look_up}
 use Rattle.daide_reader.specs.Reading.{IsRaised}
 use Rattle.daide_grammar.proofs.BracketSteps.{step_by_class}
 use Rattle.daide_reader.proofs.Counts.{none_more}
-use Rattle.daide_reader.proofs.CellLemmas.{after_skipped, after_taken, steps_skipped, steps_taken}
-use Rattle.daide_reader.proofs.ReadingLemmas.{counts_more, few_steps, raised_by, raised_more, raised_none, room_more}
+use Rattle.daide_reader.proofs.CellLemmas.{after_skipped, after_stopped, after_taken, steps_skipped, steps_taken}
+use Rattle.daide_reader.proofs.ReadingLemmas.{below_limit, counts_more, few_steps, raised_by, raised_more, raised_none, room_more}
 use Rattle.daide_reader.proofs.SliceLemmas.{count_is, counts_up, front_not_prn_behind, length_behind, open_told}
 use Rattle.daide_reader.proofs.SliceLemmas.{run_refused, run_taken}
 use Rattle.daide_reader.proofs.StackLemmas.{lawful_more}
@@ -49,8 +50,33 @@ one_more false true (suc n) j e = let same : n ≡ j = cc in omega (arith, same)
 one_more false false n j e = let same : n ≡ j = cc in omega (arith, same)
 
 -- at most one more look-up
-most_once : (n more : ℕ) → more ≤ 1 → n + more ≤ n + 1
-most_once n more few = omega arith
+most_once : (n more : ℕ) (own : Bool) (stack : List Sym) → more ≤ second_look_up own stack → n + more ≤ n + 1
+most_once n more true [] few = omega arith
+most_once n more false [] few = omega arith
+most_once n more true (s ∷ stack) few = omega arith
+most_once n more false (s ∷ stack) few = omega arith
+
+second_lower : (own : Bool) (lower upper : List Sym) → length lower ≤ length upper
+    → second_look_up own lower ≤ second_look_up own upper
+second_lower own [] upper h = omega arith
+second_lower own (s ∷ lower) [] h = absurd (omega arith)
+second_lower own (s ∷ lower) (u ∷ upper) h = omega arith
+
+-- a token at the depth limit is looked up once, and a bracket not at all
+pub few_at_limit : (moves : Sym → Class → TableEntry) (class : Class) (opens : Bool) (stack : List Sym) (n : ℕ)
+    → n ≤ steps_at moves class (open_to opens true stack) → n ≤ steps_at moves class stack + 1
+few_at_limit moves class true stack n few = omega (arith, few)
+few_at_limit moves class false stack n few = omega (arith, few)
+
+pub once_at_limit : (moves : Sym → Class → TableEntry) (class : Class) (opens : Bool) (stack : List Sym)
+    (opened max_depth n : ℕ) → opened ≡ max_depth → n ≤ steps_at moves class (open_to opens true stack)
+    → n ≤ look_ups_at moves class (open_to opens (nat_eq opened max_depth) stack)
+once_at_limit moves class opens stack opened max_depth n deep few =
+    let limit : nat_eq opened max_depth ≡ true = grind (arith, nat_tests) in
+    rw limit (omega (arith, few))
+
+both_more : (n more some most : ℕ) → more ≤ some → some ≤ most → n + more ≤ n + most
+both_more n more some most few less = omega arith
 
 module _ {T : Type 0} (table : Ghosts T)
     (laws : (w : Words) →
@@ -94,10 +120,32 @@ module _ {T : Type 0} (table : Ghosts T)
   abbrev due_at : SliceState T → ℕ → List Sym → ℕ
   due_at now t stack = steps_at (table.moves (table.words now.table)) (table.class_of (table.words now.table) t) stack
 
-  -- a token needs the look-ups in its bound, and at most one more, if the symbol that stopped it is looked up again
-  abbrev AsksFor : ℕ → SliceState T → SliceState T → Type 0
-  AsksFor t now new = (more : ℕ) × (more ≤ 1)
+  -- whether a token takes no second look-up
+  abbrev own_at : ℕ → SliceState T → Bool
+  own_at t now = is_standard (table.class_of (table.words now.table) t) && is_some (after_at now t now.stack)
+
+  -- a token needs the look-ups in its bound, and one more if the symbol that stopped it is looked up again
+  abbrev AsksFor : ℕ → ℕ → SliceState T → SliceState T → Type 0
+  AsksFor opened t now new = (more : ℕ) × (more ≤ second_look_up (own_at t now) now.stack)
       × (table.asked new.table % 2 ^ 64 ≡ (table.asked now.table + (due_at now t now.stack + more)) % 2 ^ 64)
+
+  -- the look-ups of a token that is read once
+  abbrev once_at : ℕ → ℕ → SliceState T → ℕ
+  once_at opened t now = look_ups_at (table.moves (table.words now.table))
+      (table.class_of (table.words now.table) t) (open_to (is_bra t) (nat_eq opened max_depth) now.stack)
+
+  once_asked : (opened t more : ℕ) (now start : SliceState T) → (is_bra t ≡ true → opened ≢ max_depth)
+      → table.words now.table ≡ table.words start.table → after_at start t start.stack ≡ after_at now t now.stack
+      → length now.stack ≤ length start.stack → more ≤ second_look_up (own_at t now) now.stack
+      → due_at start t start.stack + more ≤ once_at opened t start
+  once_asked opened t more now start fits words after lower few =
+      let own : own_at t now ≡ own_at t start =
+      ap (λ (w : Words). is_standard (table.class_of w t) && is_some (after_at now t now.stack)) words
+      ∙ ap (λ (o : Option (List Sym)). is_standard (table.class_of (table.words start.table) t) && is_some o) (sym after) in
+      let least : more ≤ second_look_up (own_at t start) now.stack =
+      subst (λ (b : Bool). more ≤ second_look_up b now.stack) own few in
+      rw (below_limit (is_bra t) opened max_depth fits)
+      (both_more _ more _ _ least (second_lower (own_at t start) now.stack start.stack lower))
 
   -- the effect of a token that is taken
   pub record TakesToken (t opened after : ℕ) (now new : SliceState T) : Type 0 where
@@ -107,6 +155,7 @@ module _ {T : Type 0} (table : Ghosts T)
     pub counted : count_one (is_bra t) (is_ket t) (Some opened) ≡ open_count after
     pub steps : (n : ℕ) × (n ≤ due_at now t now.stack + 1)
         × (table.asked new.table % 2 ^ 64 ≡ (table.asked now.table + n) % 2 ^ 64)
+    pub once : steps.0 ≤ once_at opened t now
 
   pub at_next : (i t opened after : ℕ) (now new : SliceState T) → AtToken i opened now
       → take (i + 1) (tokens_of body) ≡ take i (tokens_of body) ++ t ∷ [] → TakesToken t opened after now new
@@ -144,7 +193,7 @@ module _ {T : Type 0} (table : Ghosts T)
             (sym next_front)
             (run_taken table laws words first depth base _ _ max_depth _ _ p t opened after
             not_prn takes.words at.lawful at.deep takes.fits takes.taken counts
-            (takes.steps.0, few_here, takes.steps.2)
+            (takes.steps.0, few_here, takes.steps.2) takes.once
             (at.stands_after words first depth base before plain h));
       }
 
@@ -169,6 +218,7 @@ module _ {T : Type 0} (table : Ghosts T)
     pub counted : after ≡ count_one (is_bra t) (is_ket t) (Some opened)
     pub steps : (n : ℕ) × (n ≤ due_at now t now.stack + 1)
         × (table.asked new.table % 2 ^ 64 ≡ (table.asked now.table + n) % 2 ^ 64)
+    pub once : steps.0 ≤ once_at opened t now
 
   pub reads_refused : (i t opened : ℕ) (after : Option ℕ) (now new : SliceState T) → AtToken i opened now
       → i ≤ length (tokens_of body) → take (i + 1) (tokens_of body) ≡ take i (tokens_of body) ++ t ∷ []
@@ -201,8 +251,8 @@ module _ {T : Type 0} (table : Ghosts T)
             (reading new.table max_depth new.stack (outline_of q) after (Some (length before + i)) base) q)
             (sym next_front)
             (run_refused table laws words first depth base _ _ max_depth _ _ p t opened (length before + i) after
-            not_prn refuses.words at.lawful at.deep refuses.why refuses.counted (length_behind before i m inside)
-            (refuses.steps.0, few_here, refuses.steps.2)
+            not_prn refuses.words at.lawful at.deep refuses.why refuses.counted (length_behind before i m inside) empty
+            (refuses.steps.0, few_here, refuses.steps.2) refuses.once
             (at.stands_after words first depth base before plain h));
       }
 
@@ -325,7 +375,7 @@ module _ {T : Type 0} (table : Ghosts T)
       → drop i (tokens_of body) ≡ t ∷ drop (i + 1) (tokens_of body)
       → after_at now t now.stack ≡ Some new.stack
       → table.words new.table ≡ table.words now.table
-      → AsksFor t now new
+      → AsksFor opened t now new
       → (is_bra t ≡ true → opened ≢ max_depth)
       → count_one (is_bra t) (is_ket t) (Some opened) ≡ open_count after
       → TakesToken t opened after mid.start new
@@ -342,17 +392,19 @@ module _ {T : Type 0} (table : Ghosts T)
         fits = fits;
         taken = before.0 ∙ by_words ∙ taken;
         counted = counted;
-        steps = (due_at start t start.stack + counts.0, most_once _ _ counts.1, omega (arith, asked, due, sum));
+        steps = (due_at start t start.stack + counts.0, most_once _ _ _ _ counts.1, omega (arith, asked, due, sum));
+        once = once_asked opened t counts.0 now start fits mid.words (before.0 ∙ by_words) mid.lower counts.1;
       }
 
   pub refuses_token : (i opened end t : ℕ) (after : Option ℕ) (now new : SliceState T) → (mid : MidToken i opened end now)
       → drop i (tokens_of body) ≡ t ∷ drop (i + 1) (tokens_of body)
       → after_at now t now.stack ≡ None
       → table.words new.table ≡ table.words now.table
-      → AsksFor t now new
+      → AsksFor opened t now new
+      → (is_bra t ≡ true → opened ≢ max_depth)
       → after ≡ count_one (is_bra t) (is_ket t) (Some opened)
       → RefusesToken t opened after mid.start new
-  refuses_token i opened end t after now new mid here reject_at same counts counted =
+  refuses_token i opened end t after now new mid here reject_at same counts fits counted =
       let start = mid.start in
       let before = mid.on t here in
       let by_words = ap (λ (w : Words). stack_after (table.moves w) (table.class_of w t) now.stack) (sym mid.words) in
@@ -364,7 +416,8 @@ module _ {T : Type 0} (table : Ghosts T)
         words = same ∙ mid.words;
         why = inr (before.0 ∙ by_words ∙ reject_at);
         counted = counted;
-        steps = (due_at start t start.stack + counts.0, most_once _ _ counts.1, omega (arith, asked, due, sum));
+        steps = (due_at start t start.stack + counts.0, most_once _ _ _ _ counts.1, omega (arith, asked, due, sum));
+        once = once_asked opened t counts.0 now start fits mid.words (before.0 ∙ by_words) mid.lower counts.1;
       }
 
   -- inside a token there is room, as there was at its start
@@ -396,12 +449,15 @@ module _ {T : Type 0} (table : Ghosts T)
       → drop i (tokens_of body) ≡ t ∷ drop (i + 1) (tokens_of body)
       → after_at now t now.stack ≡ None
       → table.words new.table ≡ table.words now.table
-      → AsksFor t now new
+      → AsksFor opened t now new
+      → opened < max_depth
       → after ≡ count_one (is_bra t) (is_ket t) (Some opened) → new.stack ≡ []
       → tokens ≡ i + 1 → place ≡ Some i
       → ReadsTo table max_depth body read unclosed old tokens after place new
-  stops_here i opened end t tokens after place now new mid inside front here reject_at same counts counted empty size is =
-      let refuses = refuses_token i opened end t after now new mid here reject_at same counts counted in
+  stops_here i opened end t tokens after place now new mid inside front here reject_at same counts less counted empty size
+      is =
+      let fits : is_bra t ≡ true → opened ≢ max_depth = λ _ deep. omega (arith, less, deep) in
+      let refuses = refuses_token i opened end t after now new mid here reject_at same counts fits counted in
       let whole = reads_refused i t opened after mid.start new mid.at inside front empty refuses in
       subst (λ (k : ℕ). ReadsTo table max_depth body read unclosed old k after place new) (sym size)
       (subst (λ (o : Option ℕ). ReadsTo table max_depth body read unclosed old (i + 1) after o new) (sym is) whole)
@@ -412,7 +468,7 @@ module _ {T : Type 0} (table : Ghosts T)
       → drop i (tokens_of body) ≡ t ∷ drop (i + 1) (tokens_of body)
       → after_at now t now.stack ≡ Some new.stack
       → table.words new.table ≡ table.words now.table
-      → AsksFor t now new
+      → AsksFor opened t now new
       → opened < max_depth
       → count_one (is_bra t) (is_ket t) (Some opened) ≡ open_count after
       → MidToken (i + 1) after end new × (after ≤ opened + 1)
@@ -432,6 +488,37 @@ module _ {T : Type 0} (table : Ghosts T)
   takes_on (Take rest) h = refl
   takes_on Skip h = refl
   takes_on Stop h = cc
+
+  -- a symbol stops the token, which is looked up once more
+  pub stops_once : (t : ℕ) (now : SliceState T) (s : Sym) (below : List Sym) → now.stack ≡ s ∷ below
+      → after_at now t now.stack ≡ None → 1 ≤ second_look_up (own_at t now) now.stack
+  stops_once t now s below top none =
+      rw (none, top) (go (is_standard (table.class_of (table.words now.table) t)))
+    where
+      go : (b : Bool) → 1 ≤ (if b && false then 0 else 1)
+      go true = omega arith
+      go false = omega arith
+
+  -- so is a word that a symbol takes
+  pub word_once : (t u : ℕ) (now : SliceState T) (s : Sym) (below after : List Sym) (a : TableEntry)
+      → now.stack ≡ s ∷ below → is_stop a ≡ true → u ≡ t
+      → (is_standard (table.class_of (table.words now.table) u) ≡ true
+      → a ≡ table.moves (table.words now.table) s (table.class_of (table.words now.table) u))
+      → after_at now t now.stack ≡ Some after → 1 ≤ second_look_up (own_at t now) now.stack
+  word_once t u now s below after a top stop same stops taken =
+      rw (taken, top) (go (is_standard class) refl)
+    where
+      class : Class
+      class = table.class_of (table.words now.table) t
+
+      go : (b : Bool) → is_standard class ≡ b → 1 ≤ (if b && true then 0 else 1)
+      go false own = omega arith
+      go true own =
+          let told = subst (λ (i : ℕ). is_standard (table.class_of (table.words now.table) i) ≡ true
+          → a ≡ table.moves (table.words now.table) s (table.class_of (table.words now.table) i)) same stops in
+          let none : after_at now t now.stack ≡ None =
+          ap (after_at now t) top ∙ after_stopped (table.moves (table.words now.table)) class s below a (sym (told own)) stop
+          in absurd cc
 
   -- by the protocol's own table
   pub took : (i opened end t after : ℕ) (now new : SliceState T) (s : Sym) (below : List Sym) (a : TableEntry)
@@ -488,12 +575,12 @@ module _ {T : Type 0} (table : Ghosts T)
       → MidToken i opened end (record { table = asked; stack = reverse (take left cells) }) → left ≡ 0
       → i ≤ length (tokens_of body) → take (i + 1) (tokens_of body) ≡ take i (tokens_of body) ++ t ∷ []
       → drop i (tokens_of body) ≡ t ∷ drop (i + 1) (tokens_of body)
-      → known ≡ class_of t → opened + 1 < below_zero → step ≡ bracket_step known
+      → known ≡ class_of t → opened < max_depth → opened + 1 < below_zero → step ≡ bracket_step known
       → tokens ≡ i + 1 → after ≡ open_count ((opened + step) % 65536) → place ≡ Some i → count ≡ 0
       → ReadsTo table max_depth body read unclosed old tokens after place
       (record { table = asked; stack = reverse (take count cells) })
-  rejects_next i opened end t left step tokens count known after place asked cells mid empty inside front here class low
-      is size shut place_is none =
+  rejects_next i opened end t left step tokens count known after place asked cells mid empty inside front here class less
+      low is size shut place_is none =
       let now : SliceState T = record { table = asked; stack = reverse (take left cells) } in
       let new : SliceState T = record { table = asked; stack = reverse (take count cells) } in
       let moves = table.moves (table.words asked) in
@@ -504,5 +591,5 @@ module _ {T : Type 0} (table : Ghosts T)
       counted_by_step opened t known class low ∙ ap (λ (k : ℕ). open_count ((opened + k) % 65536)) (sym is) in
       stops_here i opened end t tokens after place now new mid inside front here
       (ap (λ (k : ℕ). stack_after moves of_token (reverse (take k cells))) empty)
-      refl (0, omega arith, none_more _ _ due) (shut ∙ sym counted)
+      refl (0, omega arith, none_more _ _ due) less (shut ∙ sym counted)
       (ap (λ (k : ℕ). reverse (take k cells)) none) size place_is

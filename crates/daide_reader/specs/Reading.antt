@@ -14,6 +14,7 @@ use Rattle.daide_reader.specs.declared.outline.Outline.{Outline}
 use Rattle.daide_reader.specs.ViablePrefix.{IsMessageOf}
 use Rattle.daide_reader.specs.ErrorPlace.{IsAllowedPrefix, IsErrorPlace}
 use Rattle.daide_grammar.specs.Table.Brackets.{excess_or_none}
+use Rattle.daide_reader.specs.LookUps.{Parse, no_token_read, read_each, look_ups_for}
 use Rattle.daide_reader.specs.Outline.{IsOutlineOf}
 
 -- a reader over a table of type T
@@ -70,6 +71,12 @@ abbrev pub StackOrPlace : (Sym → List ℕ → Type 0) → Sym → ℕ → List
 StackOrPlace language first max_depth stack place p =
     MatchOption place (Expects language first max_depth stack p) (HasErrorIndex (language first) max_depth p)
 
+-- a reader's stack is that of the tokens read so far, each once; after an error place no symbol is left
+pub record IsParsed (g : Parse) (stack : List Sym) (unclosed place : Option ℕ) : Type 0 where
+  pub same_stack : stack ≡ g.stack
+  pub same_count : place ≡ None → unclosed ≡ Some g.opened
+  pub none_left : IsSome place → stack ≡ []
+
 -- the tokens since `start` are p, of a message that the symbol `first` derives
 pub record HasReadPrefix {T : Type 0} (table : Ghosts T) (words : Words) (first : Sym) (max_depth : ℕ)
     (v : Reading T) (p : List ℕ) : Type 0 where
@@ -79,6 +86,9 @@ pub record HasReadPrefix {T : Type 0} (table : Ghosts T) (words : Words) (first 
   pub unclosed : v.unclosed ≡ (if begins_with_prn p then Some 0 else excess_or_none p)
   pub place : begins_with_prn p ≡ false → StackOrPlace (table.language words) first max_depth v.stack v.place p
   pub steps : steps_since table.asked v ≤ message_steps (length p) v.finished
+  pub at : begins_with_prn p ≡ false →
+      IsParsed (read_each (table.moves words) (table.class_of words) max_depth (no_token_read first) p) v.stack v.unclosed v.place
+  pub once : steps_since table.asked v ≤ look_ups_for (table.moves words) (table.class_of words) (table.ends words) first max_depth p v.finished
 
 -- the invariant of a reader with room for `size` symbols; `lawful` is its table's
 pub record IsSteady (lawful : List Sym → ℕ → Type 0) (size max_depth : ℕ) (stack : List Sym)

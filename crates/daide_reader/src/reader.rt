@@ -15,6 +15,7 @@ ghost use Rattle.daide_reader.specs.ViablePrefix.{IsMessageOf};
 ghost use Rattle.daide_reader.specs.ErrorPlace.{AreAllowed};
 ghost use Rattle.daide_reader.specs.Verdict.{HasVerdict};
 ghost use Rattle.daide_reader.specs.Outline.{IsOutlineOf};
+ghost use Rattle.daide_reader.specs.LookUps.{look_ups_for};
 ghost use Rattle.daide_reader.specs.Reading.{HasErrorIndex, HasReadPrefix, IsSettled, IsRaised, tokens_read, brackets_open, steps_since};
 ghost use Rattle.daide_reader.specs.declared.verdict.Verdict.TheVariants.{Prn};
 
@@ -311,8 +312,12 @@ impl<T: Predict, const N: usize> Reader<T, N> {
 
     /// Returns the number of the table's look-ups since the last `start`.
     ///
-    /// `steps`: at most four for each token, and four more after `finish`. Of the four, at most two skip a symbol, and
-    /// one takes or stops the token. One more, of `predict_word`, is for a token that the protocol's own table stopped.
+    /// `steps`: at most four for each token, and four more after `finish`.
+    ///
+    /// `once`: each token is read once and in order, and none after the one at which the reader stops (`look_ups_for`). A
+    /// token takes one look-up for each symbol that it skips, at most two, and one for the symbol that takes or stops it.
+    /// Only an operator's word, and the token at which the reader stops, take one more, of `predict_word`. The end takes
+    /// one for each symbol, up to the first that is not nullable. A message that begins with PRN takes none.
     ///
     /// Not said: how long an answer takes.
     pub fn steps(&self) -> u64
@@ -320,6 +325,9 @@ impl<T: Predict, const N: usize> Reader<T, N> {
         ensures steps { (words : Words) (first : Sym) (max_depth : ℕ) (p : List ℕ) →
             HasReadPrefix T.Predict words first max_depth self.now p →
             result ≤ message_steps (length p) self.now.finished }
+        ensures once { (words : Words) (first : Sym) (max_depth : ℕ) (p : List ℕ) →
+            HasReadPrefix T.Predict words first max_depth self.now p →
+            result ≤ look_ups_for (T.moves words) (T.class_of words) (T.ends words) first max_depth p self.now.finished }
     {
         self.total().wrapping_sub(self.asked_before)
     }

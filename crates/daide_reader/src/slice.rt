@@ -9,6 +9,7 @@ ghost use Rattle.daide_grammar.specs.Bounds.{cells_bound};
 ghost use Rattle.daide_grammar.specs.Table.Brackets.{is_bra, is_ket, count_one};
 ghost use Rattle.daide_grammar.specs.Table.Stacks.{stack_after};
 ghost use Rattle.daide_reader.specs.Bounds.{below_zero, longest_message, most_symbols, most_tokens};
+ghost use Rattle.daide_reader.specs.LookUps.{open_to};
 ghost use Rattle.daide_reader.specs.Outline.{count_all};
 ghost use Rattle.daide_reader.specs.Slice.{ReadsTo, place_behind};
 ghost use Rattle.daide_reader.specs.Stack.{open_count, steps_at};
@@ -73,7 +74,7 @@ fn read_token<T: Predict, const N: usize>(
     ensures words { T.words table.new ≡ T.words table.old }
     ensures steps { (n : ℕ)
         × (n ≤ steps_at (T.moves (T.words table.old)) (T.class_of (T.words table.old) token)
-        (reverse (take count cells.old)))
+        (open_to (is_bra token) true (reverse (take count cells.old))))
         × (T.asked table.new % 2 ^ 64 ≡ (T.asked table.old + n) % 2 ^ 64) }
 {
     let class = table.class_of(token);

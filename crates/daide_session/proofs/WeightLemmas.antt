@@ -5,6 +5,9 @@ use Rattle.daide_session.proofs.Common.{◌≡◌, ℕ, ◌+◌, ◌≤◌, Bool
 use Rattle.daide_session.proofs.Common.{subst, arith, ◌||◌, ◌==◌, bra, Side, Bot, Server, announced, head_in, Holding}
 use Rattle.daide_session.proofs.Common.{queued, is_awaited, is_dm_head, frame_tokens, steps_bound, ProtocolState, at}
 use Rattle.daide_session.proofs.Common.{Channels, pending, view_of}
+use Rattle.daide_channels.specs.Channels.{noted}
+use Rattle.daide_channels.specs.Receiver.{message_look_ups}
+use Rattle.daide_session.specs.Work.{look_ups_due}
 use Rattle.daide_grammar.specs.Paired.{begins_with_prn}
 use Rattle.daide_grammar.specs.Depth.{open_brackets, has_unmatched_ket, bras}
 use Rattle.daide_reader.proofs.BodyLemmas.{tokens_of-length}
@@ -87,3 +90,11 @@ steps_few t s side steps few =
     subst (λ (h : Holding).
     steps ≤ 4 * length (frame_tokens t.cap h.frame_bytes) + cond (is_awaited (queued (view_of t s)) side) 4 0)
     (sym (holding_at t s side)) few
+
+-- each token was read once
+pub steps_once : (t : Channels) (s : ProtocolState) (side : Side) (steps : ℕ) →
+    steps ≤ message_look_ups t.rules side (noted t side) (frame_tokens t.cap (at t.sides side).holding.frame_bytes)
+    (is_awaited (at t.queued) side) →
+    steps ≤ look_ups_due (view_of t s) side
+steps_once t s Bot steps few = few
+steps_once t s Server steps few = few

@@ -4,7 +4,9 @@ use Rattle.std.specs.Prelude.{◌≡◌, ℕ, ◌+◌, ◌-◌, ◌*◌, ◌%◌
 use Rattle.daide_frame.specs.declared.side.Side.{Side}
 use Rattle.daide_frame.specs.Frames.{head_in, missing}
 use Rattle.daide_grammar.specs.Bounds.{message_steps}
-use Rattle.daide_protocol.specs.Wires.{SessionView, holding, is_dm_head}
+use Rattle.daide_channels.specs.Receiver.{message_look_ups}
+use Rattle.daide_protocol.specs.Machine.{coming}
+use Rattle.daide_protocol.specs.Wires.{SessionView, holding, queued, is_awaited, is_dm_head}
 use Rattle.daide_protocol.specs.Weight.{frame_tokens}
 
 -- whether a side's frame is a whole message
@@ -18,6 +20,13 @@ answers_for cap frame_bytes = message_steps (length (frame_tokens cap frame_byte
 -- the credit left for these bytes: two look-ups for each byte, without those permitted so far
 abbrev pub left_of : ℕ → List ℕ → ℕ
 left_of cap frame_bytes = 2 * length frame_bytes - answers_for cap frame_bytes
+
+-- the look-ups for a side's held message, if each of its tokens is read once and in order, and none after the one at which
+-- the reader stops
+abbrev pub look_ups_due : SessionView → Side → ℕ
+look_ups_due g side =
+    message_look_ups (record { max_depth = g.state.limits.max_depth; words = g.state.limits.words }) side
+    (coming g.state side).noted (frame_tokens g.state.limits.cap (holding g side).frame_bytes) (is_awaited (queued g) side)
 
 -- the credit left for a side's held bytes
 abbrev pub unspent : SessionView → Side → ℕ

@@ -4,6 +4,7 @@ use Rattle.daide_words.proofs.Common.{Option, Some, None, option_map, refl, sym,
 use Rattle.daide_words.proofs.Common.{list_any, nat_tests, Class, Word, Level, Sym, Closing, TableEntry, Take, Skip}
 use Rattle.daide_words.proofs.Common.{Stop, is_stop, entries, form_of, slot_of, may_end_of, table_answer, AddedWord}
 use Rattle.daide_words.proofs.Common.{Words, both-pass, grammar_word, grammar_words, word_at, word_answer, answer_over}
+use Rattle.daide_token.specs.Class.{is_standard}
 use Rattle.daide_grammar.specs.Table.Numbers.{word_number}
 use Rattle.daide_grammar.specs.Forms.{Slot}
 use Rattle.daide_grammar.specs.Table.Symbols.{Alternative, entry_at, this_or, answer_by, is_of_kind}
@@ -25,6 +26,11 @@ pub no_word : (words : Words) (s : Sym) (c : Class) → word_number c ≡ None �
 unfolding answer_over
 no_word words s (Word i) e = cc
 no_word words s _ e = refl
+
+-- nor has a class without words
+pub own_number : (c : Class) → is_standard c ≡ true → word_number c ≡ None
+own_number (Word k) h = cc
+own_number _ h = refl
 
 -- at a slot for words no symbol is nullable,
 abbrev stays : Option (Slot × Level) → Bool → Bool

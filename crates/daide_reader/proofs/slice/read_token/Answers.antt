@@ -57,8 +57,9 @@ returns g c =
       counted = c.recount.ensures.counted;
       reject_at = refused_by _ moves _ _ stack c.follow.result c.class_of-class.ensures c.follow.ensures.reject_at;
       words = c.follow.ensures.words;
-      steps = subst (λ (class : Class). (n : ℕ) × (n ≤ steps_at moves class stack)
+      steps = rw (no_bra_of _ _ c.recount.ensures.fits c.if-not-recount.false)
+          (subst (λ (class : Class). (n : ℕ) × (n ≤ steps_at moves class stack)
           × (g.T.Predict.asked c.follow.new.table % 2 ^ 64 ≡ (g.T.Predict.asked c.args.table.now + n) % 2 ^ 64))
           c.class_of-class.ensures
-          (steps_at moves c.class_of-class.result stack, omega arith, c.follow.ensures.steps);
+          (steps_at moves c.class_of-class.result stack, omega arith, c.follow.ensures.steps));
     }

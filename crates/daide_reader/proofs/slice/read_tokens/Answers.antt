@@ -1,11 +1,12 @@
 use Rattle.daide_reader.proofs.Common.{◌≡◌, ◌≤◌, ◌/◌, ℕ, true, false, None, Some, is_some, take, length, reverse, refl}
-use Rattle.daide_reader.proofs.Common.{sym, ap, ◌∙◌, subst, rules, arith, ReadsTo, SliceState}
-use Rattle.daide_reader.proofs.Counts.{all_of, count_low, fewer_left, next_within, one_less, or_one_more, place_fits}
+use Rattle.daide_reader.proofs.Common.{sym, ap, ◌∙◌, subst, rules, arith, is_bra, ReadsTo, SliceState}
+use Rattle.daide_reader.proofs.Counts.{all_of, count_low, fewer_left, next_within, one_less, place_fits}
 use Rattle.daide_reader.proofs.Counts.{read_inside, token_inside, whole_token}
 use Rattle.daide_reader.proofs.BodyLemmas.{tokens_of-length}
 use Rattle.daide_reader.proofs.ReadingLemmas.{none_from_test, room_more}
 use Rattle.daide_reader.proofs.SliceLemmas.{never_opens, opens_too_many}
-use Rattle.daide_reader.proofs.StretchLemmas.{at_joined, at_next, at_start, reads_all, reads_joined, reads_refused}
+use Rattle.daide_reader.proofs.StretchLemmas.{at_joined, at_next, at_start, few_at_limit, once_at_limit, reads_all}
+use Rattle.daide_reader.proofs.StretchLemmas.{reads_joined, reads_refused}
 use Rattle.daide_reader.proofs.slice.read_tokens.Goals as goal
 
 pub loop-next-init : goal.loop-next-init
@@ -101,6 +102,8 @@ returns-in_default g c = record {
       let i = c.loop-next.next in
       let opened = c.loop-next.opened in
       let t = c.token_at-token.result in
+      let moves = g.T.Predict.moves (g.T.Predict.words now.table) in
+      let class = g.T.Predict.class_of (g.T.Predict.words now.table) t in
       let new : SliceState g.row.T.Denot =
       record { table = c.read_token.new.table; stack = reverse (take c.reject_at.result.count c.read_token.new.cells) } in
       let whole = reads_refused g.T.Predict g.met.T.Predict.laws c.args.max_depth c.args.body.now c.args.start.read c.args.start.unclosed old
@@ -112,7 +115,9 @@ returns-in_default g c = record {
         why = opens_too_many _ opened c.args.max_depth _ (all_of _ _ inv.at.deep c.if-opened-max_depth.false)
             c.in_default.ensures.reject_at;
         counted = c.reject_at.ensures.unclosed ∙ sym c.read_token.ensures.counted;
-        steps = (c.read_token.ensures.steps.0, or_one_more _ _ c.read_token.ensures.steps.1, c.read_token.ensures.steps.2);
+        steps = (c.read_token.ensures.steps.0, few_at_limit moves class (is_bra t) now.stack _ c.read_token.ensures.steps.1, c.read_token.ensures.steps.2);
+        once = once_at_limit moves class (is_bra t) now.stack opened c.args.max_depth _ (all_of _ _ inv.at.deep c.if-opened-max_depth.false)
+            c.read_token.ensures.steps.1;
       }) in
       rw (c.reject_at.ensures.tokens, c.reject_at.ensures.place) whole;
 }
@@ -126,6 +131,9 @@ loop-next-preserved g c =
     let inv = c.loop-next.invariant in
     let i = c.loop-next.next in
     let opened = c.loop-next.opened in
+    let t = c.token_at-token.result in
+    let moves = g.T.Predict.moves (g.T.Predict.words now.table) in
+    let class = g.T.Predict.class_of (g.T.Predict.words now.table) t in
     let new : SliceState g.row.T.Denot =
     record { table = c.read_token.new.table; stack = reverse (take c.in-Some.now c.read_token.new.cells) } in
     record {
@@ -138,7 +146,9 @@ loop-next-preserved g c =
             fits = never_opens _ _ _ (c.in-Some.ensures.fits refl);
             taken = c.in-Some.ensures.taken;
             counted = c.read_token.ensures.counted;
-            steps = (c.read_token.ensures.steps.0, or_one_more _ _ c.read_token.ensures.steps.1, c.read_token.ensures.steps.2);
+            steps = (c.read_token.ensures.steps.0, few_at_limit moves class (is_bra t) now.stack _ c.read_token.ensures.steps.1, c.read_token.ensures.steps.2);
+            once = once_at_limit moves class (is_bra t) now.stack opened c.args.max_depth _ (all_of _ _ inv.at.deep c.if-opened-max_depth.false)
+                c.read_token.ensures.steps.1;
           });
     }
 

@@ -9,8 +9,10 @@ use Rattle.daide_reader.proofs.Counts.{token_fits, token_inside, token_less, top
 use Rattle.daide_reader.proofs.Counts.{whole_token}
 use Rattle.daide_reader.proofs.BodyLemmas.{tokens_of-length}
 use Rattle.daide_reader.proofs.CellLemmas.{known_on_top, leaves_by_taking, on_top}
-use Rattle.daide_reader.proofs.StretchLemmas.{at_start, begun, counted_by_step, due_same, goes_on, low_enough, room_for}
-use Rattle.daide_reader.proofs.StretchLemmas.{rejects_next, run_whole, said_same, skipped, stops_here, took}
+use Rattle.daide_reader.proofs.StretchLemmas.{at_start, begun, counted_by_step, due_same, goes_on, low_enough}
+use Rattle.daide_reader.proofs.StretchLemmas.{room_for}
+use Rattle.daide_reader.proofs.StretchLemmas.{rejects_next, run_whole, said_same, skipped, stops_here, stops_once}
+use Rattle.daide_reader.proofs.StretchLemmas.{took, word_once}
 use Rattle.daide_reader.proofs.slice.run_below_depth_limit.Given.{Over}
 use Rattle.daide_reader.proofs.slice.run_below_depth_limit.Goals.{At-loop-first, Joined-left-ne0}
 use Rattle.daide_reader.proofs.slice.run_below_depth_limit.Goals.{else-is_take+else-is_stop, else-left-ne0}
@@ -257,7 +259,7 @@ returns-in_default-follow_word-clause-reads g c =
     (tokens_of-length c.args.body.now))
     front rest
     (said ∙ c.in_default-follow_word.ensures.reject_at)
-    (c.follow_word.ensures.words ∙ c.predict_token-answer.ensures.words_stay) (1, omega arith, once_more _ _ _ _ _ due once steps)
+    (c.follow_word.ensures.words ∙ c.predict_token-answer.ensures.words_stay) (1, stops_once g.T.Predict g.met.T.Predict.laws c.args.max_depth c.args.body.now c.args.start.read c.args.start.unclosed old t now _ _ inv.top (said ∙ c.in_default-follow_word.ensures.reject_at), once_more _ _ _ _ _ due once steps) less
     (c.reject_at.ensures.unclosed ∙ sym counted)
     (ap (λ (k : ℕ). reverse (take k c.follow_word.new.cells)) c.reject_at.ensures.count)
     c.reject_at.ensures.tokens c.reject_at.ensures.place
@@ -299,7 +301,7 @@ returns-then-next-last-3-clause-reads g c =
     let next = goes_on g.T.Predict g.met.T.Predict.laws c.args.max_depth c.args.body.now c.args.start.read c.args.start.unclosed old
     i opened end t ((opened + c.bracket_step-opened-then-is_stop.result) % 65536) now new inv.mid
     front rest (said ∙ c.in-Some-follow_word.ensures.taken)
-    (c.follow_word.ensures.words ∙ c.predict_token-answer.ensures.words_stay) (1, omega arith, once_more _ _ _ _ _ due once steps) less
+    (c.follow_word.ensures.words ∙ c.predict_token-answer.ensures.words_stay) (1, word_once g.T.Predict g.met.T.Predict.laws c.args.max_depth c.args.body.now c.args.start.read c.args.start.unclosed old t _ now _ _ _ _ inv.top (sym c.is_stop.ensures ∙ c.if-is_stop.true) (c.token-in-loop-first.ensures ∙ sym same) c.predict_token-answer.ensures.stops (said ∙ c.in-Some-follow_word.ensures.taken), once_more _ _ _ _ _ due once steps) less
     counted in
     run_whole g.T.Predict g.met.T.Predict.laws c.args.max_depth c.args.body.now c.args.start.read c.args.start.unclosed old
     (i + 1) ((opened + c.bracket_step-opened-then-is_stop.result) % 65536) end c.run_end-then-next-last-3.result.tokens
@@ -388,7 +390,7 @@ loop-first-preserved g c =
           let next = goes_on g.T.Predict g.met.T.Predict.laws c.args.max_depth c.args.body.now c.args.start.read c.args.start.unclosed old
           i opened end t ((opened + w.bracket_step-opened-then-is_stop.result) % 65536) now new inv.mid
           front rest (said ∙ w.in-Some-follow_word.ensures.taken)
-          (w.follow_word.ensures.words ∙ c.predict_token-answer.ensures.words_stay) (1, omega arith, once_more _ _ _ _ _ due once steps) less
+          (w.follow_word.ensures.words ∙ c.predict_token-answer.ensures.words_stay) (1, word_once g.T.Predict g.met.T.Predict.laws c.args.max_depth c.args.body.now c.args.start.read c.args.start.unclosed old t _ now _ _ _ _ inv.top (sym w.is_stop.ensures ∙ w.if-is_stop.true) (c.token-in-loop-first.ensures ∙ sym same) c.predict_token-answer.ensures.stops (said ∙ w.in-Some-follow_word.ensures.taken), once_more _ _ _ _ _ due once steps) less
           counted in
           record {
             inside = rw w.left-is w.in-Some-follow_word.ensures.inside;
@@ -489,7 +491,7 @@ returns-clause-reads g c =
                 shut.result.count column shut.result.unclosed shut.result.place c.if-left-ne0.table c.if-left-ne0.cells
                 (rw (w.next-is ∙ v.next-is, w.opened-is ∙ v.opened-is, w.table-is ∙ v.table-is, w.left-is ∙ v.left-is, w.cells-is ∙ v.cells-is) next.0)
                 (w.left-is ∙ w.if-left-eq0.true) (rw (w.next-is ∙ v.next-is) inside) (rw (w.next-is ∙ v.next-is) v.at-loaded-then-is_take.ensures.front) (rw (w.next-is ∙ v.next-is) v.at-loaded-then-is_take.ensures.rest)
-                (w.column-is ∙ v.column-is ∙ v.known-column-then-is_take.ensures ∙ ap known_class v.token-then-is_take.ensures) (rw (w.opened-is ∙ v.opened-is) few) c.bracket_step.ensures
+                (w.column-is ∙ v.column-is ∙ v.known-column-then-is_take.ensures ∙ ap known_class v.token-then-is_take.ensures) (rw (w.opened-is ∙ v.opened-is) (less_deep _ end here c.args.max_depth shallow more)) (rw (w.opened-is ∙ v.opened-is) few) c.bracket_step.ensures
                 shut.ensures.tokens shut.ensures.unclosed shut.ensures.place shut.ensures.count
             | else-is_take+then-is_stop+in-Some-follow_word+else-next-last-3 v ↦
                 let t = v.token-then-is_stop.result in
@@ -515,7 +517,7 @@ returns-clause-reads g c =
                 let next = goes_on g.T.Predict g.met.T.Predict.laws c.args.max_depth c.args.body.now c.args.start.read c.args.start.unclosed old
                 i opened end t ((opened + v.bracket_step-opened-then-is_stop.result) % 65536) now new inv.mid
                 front rest (said ∙ v.in-Some-follow_word.ensures.taken)
-                (v.follow_word.ensures.words ∙ w.predict_token-answer.ensures.words_stay) (1, omega arith, once_more _ _ _ _ _ due once steps) less
+                (v.follow_word.ensures.words ∙ w.predict_token-answer.ensures.words_stay) (1, word_once g.T.Predict g.met.T.Predict.laws c.args.max_depth c.args.body.now c.args.start.read c.args.start.unclosed old t _ now _ _ _ _ inv.top (sym v.is_stop.ensures ∙ v.if-is_stop.true) (w.token-in-loop-first.ensures ∙ sym same) w.predict_token-answer.ensures.stops (said ∙ v.in-Some-follow_word.ensures.taken), once_more _ _ _ _ _ due once steps) less
                 counted in
                 let here = i + 1 in
                 let more : here < end = not_last i end inv.more v.if-next-last-3.false in
@@ -530,7 +532,7 @@ returns-clause-reads g c =
                 shut.result.count column shut.result.unclosed shut.result.place c.if-left-ne0.table c.if-left-ne0.cells
                 (rw (w.next-is ∙ v.next-is, w.opened-is ∙ v.opened-is, w.table-is ∙ v.table-is, w.left-is ∙ v.left-is, w.cells-is ∙ v.cells-is) next.0)
                 (w.left-is ∙ w.if-left-eq0.true) (rw (w.next-is ∙ v.next-is) inside) (rw (w.next-is ∙ v.next-is) v.at-loaded-then-is_stop.ensures.front) (rw (w.next-is ∙ v.next-is) v.at-loaded-then-is_stop.ensures.rest)
-                (w.column-is ∙ v.column-is ∙ v.known-column-then-is_stop.ensures ∙ ap known_class v.token-then-is_stop-2.ensures) (rw (w.opened-is ∙ v.opened-is) few) c.bracket_step.ensures
+                (w.column-is ∙ v.column-is ∙ v.known-column-then-is_stop.ensures ∙ ap known_class v.token-then-is_stop-2.ensures) (rw (w.opened-is ∙ v.opened-is) (less_deep _ end here c.args.max_depth shallow more)) (rw (w.opened-is ∙ v.opened-is) few) c.bracket_step.ensures
                 shut.ensures.tokens shut.ensures.unclosed shut.ensures.place shut.ensures.count
             | else-is_take+else-is_stop v ↦
                 let t = w.token-in-loop-first.result in
@@ -563,7 +565,7 @@ returns-clause-reads g c =
                 shut.result.count column shut.result.unclosed shut.result.place c.if-left-ne0.table c.if-left-ne0.cells
                 (rw (w.next-is ∙ v.next-is, w.opened-is ∙ v.opened-is, w.table-is ∙ v.table-is, w.left-is ∙ v.left-is, w.cells-is ∙ v.cells-is) mid)
                 (w.left-is ∙ w.if-left-eq0.true) (rw (w.next-is ∙ v.next-is) inside) (rw (w.next-is ∙ v.next-is) inv.front) (rw (w.next-is ∙ v.next-is) inv.rest)
-                (w.column-is ∙ v.column-is ∙ inv.class) (rw (w.opened-is ∙ v.opened-is) few) c.bracket_step.ensures
+                (w.column-is ∙ v.column-is ∙ inv.class) (rw (w.opened-is ∙ v.opened-is) (less_deep _ end here c.args.max_depth shallow more)) (rw (w.opened-is ∙ v.opened-is) few) c.bracket_step.ensures
                 shut.ensures.tokens shut.ensures.unclosed shut.ensures.place shut.ensures.count
           ]
       | else-left-ne0 w ↦
@@ -583,7 +585,7 @@ returns-clause-reads g c =
           (at_start g.T.Predict g.met.T.Predict.laws c.args.max_depth c.args.body.now c.args.start.read c.args.start.unclosed old
           (less_within _ _ c.requires.deep) c.requires.lawful)))
           (w.left-is ∙ w.if-left-ne0.false) (rw (w.next-is) inside) (rw (w.next-is) c.at-loaded.ensures.front) (rw (w.next-is) c.at-loaded.ensures.rest)
-          (w.column-is ∙ c.known-column.ensures ∙ ap known_class c.token.ensures) (rw (w.opened-is) few) c.bracket_step.ensures
+          (w.column-is ∙ c.known-column.ensures ∙ ap known_class c.token.ensures) (rw (w.opened-is) (less_deep _ end here c.args.max_depth shallow more)) (rw (w.opened-is) few) c.bracket_step.ensures
           shut.ensures.tokens shut.ensures.unclosed shut.ensures.place shut.ensures.count
     ]
 

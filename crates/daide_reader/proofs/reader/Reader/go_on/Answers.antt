@@ -62,6 +62,7 @@ returns-then-outline g c = record {
   stands_after = λ words first max_depth p outline h.
       stands_report_on g.T.Predict words first max_depth _ _ p (tokens_of c.args.body.now) _
       refl refl refl refl refl refl (λ _. outline) c.if-outline.true
+      (ap (λ (v : Reading g.row.T.Denot). v.finished) c.self.view_is ∙ c.requires.unfinished)
       (stands_along g.T.Predict words first max_depth _ _ p c.self.view_is h);
   tokens = refl;
   words = ap (λ (v : Reading g.row.T.Denot). g.T.Predict.words v.table) c.self.view_is;
@@ -107,6 +108,7 @@ returns-then-is_some g c = record {
         not_prn = c.if-outline.false;
         unclosed_more = c.count_from-self-inside.ensures.count;
         all_read = λ none. let f : true ≡ false = c.if-is_some.ensures ∙ ap is_some none in absurd cc;
+        none_left = c.self.invariant.none_left;
       })
       (stands_along g.T.Predict words first max_depth _ _ p c.self.view_is h);
   tokens = refl;
@@ -246,6 +248,7 @@ returns g c = record {
             ap (λ (i : ℕ). drop i m)
             (c.read_tokens-reached.ensures.all (behind_none _ _ no_place) ∙ sym (tokens_of-length b))
             ∙ drop-length m;
+        none_left = λ some. reads.none_left (behind_some _ _ some);
       })
       (subst (λ (k : ℕ). HasReadPrefix Predict words first max_depth
       (reading c.read_tokens-reached.new.table c.self.inside.max_depth (reverse c.read_tokens-reached.new.self)
