@@ -3,6 +3,7 @@
 ghost use Rattle.std.specs.Prelude.{◌≡◌, ◌≤◌, IfOk, map};
 ghost use Rattle.clap.specs.Values.{kind_of};
 ghost use Rattle.daide_causes.specs.Causes.{HasFailed, WasRefused};
+ghost use Rattle.daide_run.specs.Running.{TextRuns};
 ghost use Rattle.daide_tools.specs.Endings.{AreSettingsRefused};
 ghost use Rattle.daide_commands.specs.Answers.{CommandEnds, OrderEnds, UsageEnds};
 
@@ -12,12 +13,20 @@ use daide_causes::{Sink, Source};
 use daide_command_line::arguments::{Order, order_of, parse};
 use daide_command_line::hints::{suggest, usage_hint};
 use daide_frame::Memory;
+use daide_io::duplex::Duplex;
+use daide_io::{Network, Ports};
+use daide_log::Recording;
+use daide_run::folder::SessionFile;
 use daide_settings::SettingsMemory;
+use daide_sockets::connection::Connection;
+use daide_sockets::os_network::OsNetwork;
+use daide_sockets::ports::SocketPorts;
 use daide_tools::checking::run_check;
 use daide_tools::controlling::{run_status, run_stop};
 use daide_tools::faults::{CLEAN, FAULT, NOT_RELAYED, USAGE, print_fault};
 use daide_tools::framing::run_frame;
 use daide_tools::judging::run_settings;
+use daide_tools::opening::FileOpener;
 use daide_tools::showing::run_show;
 use daide_tools::transcribing::run_transcript;
 use std::alloc::Global;
@@ -25,7 +34,7 @@ use std::convert::AsStr;
 use std::io;
 use std::io::Write;
 use std::net::Net;
-use std::rt::{Clock, Files};
+use std::rt::Clock;
 
 /// Writes the requested help, or the usage error. Returns the status.
 fn report_usage<S: AsStr, O: Write, E: Write>(
@@ -52,7 +61,7 @@ fn report_usage<S: AsStr, O: Write, E: Write>(
 }
 
 /// Carries out an order. Returns the status.
-fn carry_out<R: AllocGlobal + Files + Clock + Net, I: Source, O: Sink, E: Write>(
+fn carry_out<R: AllocGlobal + FileOpener + Clock + Net, I: Source, O: Sink, E: Write>(
     rt: &R,
     order: Order<'_, '_>,
     input: &mut I,
@@ -60,7 +69,12 @@ fn carry_out<R: AllocGlobal + Files + Clock + Net, I: Source, O: Sink, E: Write>
     errors: &mut E,
 ) -> io::Result<u8>
     ensures bounded { IfOk result (λ status. status ≤ NOT_RELAYED) }
-    ensures ended { IfOk result (OrderEnds (HasFailed I.Fails) (WasRefused ⟦<Global as Memory>⟧.Refuses)
+    ensures ended { IfOk result (OrderEnds R.Opens R.File.remaining
+        (λ records text. TextRuns records ⟦<OsNetwork<'static, R> as Network>⟧.transition
+        ⟦<Connection as Duplex>⟧.to_give ⟦<Connection as Duplex>⟧.taken ⟦<Connection as Duplex>⟧.calls
+        ⟦<Recording<SocketPorts<'static, Connection>, SessionFile<R::File>> as Ports>⟧.transition
+        (HasFailed ⟦<SessionFile<R::File> as Sink>⟧.Fails) text (HasFailed O.Fails))
+        (HasFailed I.Fails) (WasRefused ⟦<Global as Memory>⟧.Refuses)
         (AreSettingsRefused ⟦<Global as Memory>⟧.Refuses ⟦<Global as SettingsMemory>⟧.Refuses) (HasFailed O.Fails)
         order.entry (I.remaining input.old) (I.remaining input.new) (O.contents output.old) (O.contents output.new)) }
 {
@@ -107,18 +121,19 @@ fn carry_out<R: AllocGlobal + Files + Clock + Net, I: Source, O: Sink, E: Write>
 /// `bounded`: the status is one of the four of `faults`.
 ///
 /// `answered`: what the program does, its status and its output are those of the order that the words give
-/// (`OrderEnds`). For `show`, `check` and `frame` the order says what they write of standard input. `settings` returns 0
-/// only for a standard input that `read_settings` accepts, `run` only if it wrote that it listens, and `status` only if
-/// it printed an answer. A failed write ends `show`, `frame` and `settings` without `--try` only if a write failed, and a
-/// failed read of standard input `show` and `frame` only if a read failed. Words that are not understood return 2 and
-/// write nothing to the output. Help and version return 0 or 1, and refused memory returns 1 (`UsageEnds`).
+/// (`OrderEnds`). For `show`, `check` and `frame` the order says what they write of standard input, for `check FILE` and
+/// `settings FILE` what they write of the file that was opened by that name. `run` runs the text of the file that was opened
+/// by its name, with the folder of `--record` (`run_text`), and `status` returns 0 only if it printed an answer. A failed
+/// write ends `show`, `frame` and `settings` only if a write failed, and a failed read of standard input `show` and `frame`
+/// only if a read failed. Words that are not understood return 2 and write nothing to the output. Help and version return 0
+/// or 1, and refused memory returns 1 (`UsageEnds`).
 ///
 /// Premise: no word begins with a hyphen and a digit. With such a word `frame` takes negative numbers, and `clap`'s
 /// contracts say nothing of that; then the program ends as some order does.
 ///
-/// Not said: the texts of help, usage and faults; what a file has; that memory was refused, which `run_show`,
-/// `run_frame` and `run_settings` say of any memory.
-pub fn answer<R: AllocGlobal + Files + Clock + Net, S: AsStr, I: Source, O: Sink, E: Write>(
+/// Not said: the texts of help, usage and faults; that memory was refused, which `run_show`, `run_frame` and
+/// `run_settings` say of any memory.
+pub fn answer<R: AllocGlobal + FileOpener + Clock + Net, S: AsStr, I: Source, O: Sink, E: Write>(
     rt: &R,
     words: &[S],
     input: &mut I,
@@ -126,7 +141,12 @@ pub fn answer<R: AllocGlobal + Files + Clock + Net, S: AsStr, I: Source, O: Sink
     errors: &mut E,
 ) -> io::Result<u8>
     ensures bounded { IfOk result (λ status. status ≤ NOT_RELAYED) }
-    ensures answered { IfOk result (CommandEnds (HasFailed I.Fails) (WasRefused ⟦<Global as Memory>⟧.Refuses)
+    ensures answered { IfOk result (CommandEnds R.Opens R.File.remaining
+        (λ records text. TextRuns records ⟦<OsNetwork<'static, R> as Network>⟧.transition
+        ⟦<Connection as Duplex>⟧.to_give ⟦<Connection as Duplex>⟧.taken ⟦<Connection as Duplex>⟧.calls
+        ⟦<Recording<SocketPorts<'static, Connection>, SessionFile<R::File>> as Ports>⟧.transition
+        (HasFailed ⟦<SessionFile<R::File> as Sink>⟧.Fails) text (HasFailed O.Fails))
+        (HasFailed I.Fails) (WasRefused ⟦<Global as Memory>⟧.Refuses)
         (AreSettingsRefused ⟦<Global as Memory>⟧.Refuses ⟦<Global as SettingsMemory>⟧.Refuses) (HasFailed O.Fails)
         (map S.text words.now) (I.remaining input.old) (I.remaining input.new) (O.contents output.old)
         (O.contents output.new)) }

@@ -27,7 +27,7 @@ use Rattle.daide_run.specs.declared.running.RunFault.TheVariants.{Gateway, Memor
 use Rattle.daide_run.specs.declared.running.RunFault.TheVariants as run_faults
 use Rattle.daide_run.specs.Folder.{CallRecords, RecordHead, TraceRecords, head_for}
 use Rattle.daide_run.specs.Gateway.{Announces}
-use Rattle.daide_run.specs.Running.{RunsBy, Serves, RunEnds, SettingsRun, TextRuns, IsBeforeRun, ending_by}
+use Rattle.daide_run.specs.Running.{RunsBy, Serves, RunEnds, SettingsRun, IsBeforeRun, ending_by}
 
 -- a row among free rows is not taken
 free_there : (count key : ℕ) → one_if (row_at (replicate count free_row) key).is_taken ≡ 0
@@ -150,46 +150,3 @@ module _ {N C S : Type 0} (transition : N → NetworkCall C → N → Type 0) (t
             RunEnds transition to_give taken calls port_transition record_failed with settings failed h.0 before after result)
             same h.1,
       )
-
-  -- a run that ends well has printed `listening`
-  said_by : (head : RecordHead) (settings : Settings) (failed : Type 0) (before after : Option (List ℕ)) (begun : RunState N S)
-      (served : Result (Unit {0}) ServeFault) →
-      Serves transition to_give taken calls port_transition record_failed head settings failed before after begun served →
-      Announces failed before after
-  said_by head settings failed before after begun (Ok done) serves = serves.0
-  said_by head settings failed before after begun (Err fault) serves = serves.0
-
-  -- a run that did not begin has not ended well
-  ends_early : (failed : Type 0) (before after : Option (List ℕ)) (fault : RunFault) (result : Result (Unit {0}) RunFault) →
-      result ≡ Err fault → OnOk result (Announces failed before after)
-  ends_early failed before after fault (Ok done) e = absurd (cc)
-  ends_early failed before after fault (Err other) e = tt
-
-  on_ok : (failed : Type 0) (before after : Option (List ℕ)) (result : Result (Unit {0}) RunFault) →
-      Announces failed before after → OnOk result (Announces failed before after)
-  on_ok failed before after (Ok done) said = said
-  on_ok failed before after (Err fault) said = tt
-
-  said : (head : RecordHead) (settings : Settings) (failed : Type 0) (network : N) (before after : Option (List ℕ))
-      (result : Result (Unit {0}) RunFault) →
-      RunEnds transition to_give taken calls port_transition record_failed head settings failed network before after result →
-      OnOk result (Announces failed before after)
-  said head settings failed network before after result (inl h) = ends_early failed before after Memory result h.0
-  said head settings failed network before after result (inr h) =
-      on_ok failed before after result (said_by head settings failed before after h.0 h.2 h.4)
-
-  said_with : {F : Type 0} (records : Option F) (head : RecordHead) (settings : Settings) (failed : Type 0) (before after : Option (List ℕ))
-      (result : Result (Unit {0}) RunFault) →
-      SettingsRun records transition to_give taken calls port_transition record_failed head settings failed before after
-      result →
-      OnOk result (Announces failed before after)
-  said_with records head settings failed before after result (inl h) = ends_early failed before after h.0 result h.1
-  said_with records head settings failed before after result (inr h) = said head settings failed h.0 before after result h.1
-
-  pub text_said : {F : Type 0} (records : Option F) (text : List ℕ) (failed : Type 0) (before after : Option (List ℕ))
-      (result : Result (Unit {0}) RunFault) →
-      TextRuns records transition to_give taken calls port_transition record_failed text failed before after result →
-      OnOk result (Announces failed before after)
-  text_said records text failed before after result (inl h) =
-      ends_early failed before after (run_faults.Settings h.0) result h.1
-  text_said records text failed before after result (inr h) = said_with records (head_for h.0 records) h.0 failed before after result h.2

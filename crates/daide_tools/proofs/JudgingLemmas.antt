@@ -1,16 +1,27 @@
--- What holds for a text holds for the known bytes that it is. A cause of a part is one of the whole.
-use Rattle.std.proofs.Common.{◌≡◌, ℕ, List, Option, Some, None, subst, ◌∙◌}
-use Rattle.std.specs.Prelude.{IfSome}
-use Rattle.daide_settings.specs.Causes.{IsJudgeCause}
-use Rattle.daide_settings.specs.declared.settings.judged.JudgeFault.{JudgeFault}
-use Rattle.daide_settings.specs.declared.settings.judged.JudgeFault.TheVariants.{Memory, Write}
+-- What is printed of a judgement, one text after another.
+use Rattle.std.proofs.Common.{◌≡◌, ℕ, List, ◌++◌, Option, Some, None, Result, Ok, Err, OnOk, append_assoc, ap, refl, ◌∙◌}
+use Rattle.std.specs.Io.KnownBytes.{Appends}
 
-pub of_text : (P : List ℕ → Type 0) (known : Option (List ℕ)) (text shown : List ℕ) → shown ≡ text →
-    IfSome known (λ all. text ≡ all) → P shown → IfSome known P
-of_text P None text shown same e h = tt
-of_text P (Some all) text shown same e h = subst P (same ∙ e) h
+-- what is written in two parts
+pub appends_both : (old mid new : Option (List ℕ)) (first second text : List ℕ) → Appends old mid first → Appends mid new second →
+    second ≡ text → Appends old new (first ++ text)
+appends_both None mid new first second text wrote next same = tt
+appends_both (Some before) None new first second text wrote next same = absurd wrote
+appends_both (Some before) (Some between) None first second text wrote next same = absurd next
+appends_both (Some before) (Some between) (Some after) first second text wrote next same =
+    next ∙ ap (λ (front : List ℕ). front ++ second) wrote ∙ append_assoc before first second
+    ∙ ap (λ (rest : List ℕ). before ++ (first ++ rest)) same
 
-pub judge_cause_of : {refused refused' : Type 0} (write : Type 0) → (refused → refused') → (fault : JudgeFault) →
-    IsJudgeCause refused write fault → IsJudgeCause refused' write fault
-judge_cause_of write on_refused Write h = h
-judge_cause_of write on_refused Memory h = on_refused h
+-- what is written in three parts, and what is appended to a list in three parts
+pub three_written : {E : Type 0} (result : Result (Unit {0}) E) (old one two new : Option (List ℕ)) (a b c : List ℕ) →
+    Appends old one a → Appends one two b → OnOk result (Appends two new c) → OnOk result (Appends old new (a ++ (b ++ c)))
+three_written (Ok done) old one two new a b c first second third =
+    appends_both old one new a (b ++ c) _ first (appends_both one two new b c _ second third refl) refl
+three_written (Err fault) old one two new a b c first second third = tt
+
+pub three_appended : {E : Type 0} (result : Result (Unit {0}) E) (old one two new a b c : List ℕ) → one ≡ old ++ a →
+    two ≡ one ++ b → OnOk result (new ≡ two ++ c) → OnOk result (new ≡ old ++ (a ++ (b ++ c)))
+three_appended (Ok done) old one two new a b c first second third =
+    third ∙ ap (λ (l : List ℕ). l ++ c) (second ∙ ap (λ (l : List ℕ). l ++ b) first) ∙ append_assoc (old ++ a) b c
+    ∙ append_assoc old a (b ++ c)
+three_appended (Err fault) old one two new a b c first second third = tt

@@ -1,11 +1,12 @@
 -- The end of `show`, `check`, `frame` and `settings`: the exit status by the result of their libraries, and the output.
 -- (own)
-use Rattle.std.specs.Prelude.{◌≡◌, ◌≢◌, ◌≤◌, ◌⊎◌, ⊤, ℕ, ◌==◌, ◌&&◌, Bool, true, false, if◌then◌else◌, codes}
+use Rattle.std.specs.Prelude.{◌≡◌, ◌≢◌, ◌⊎◌, ⊤, ℕ, ◌==◌, ◌&&◌, Bool, true, false, if◌then◌else◌}
 use Rattle.std.specs.Prelude.{List, [], ◌∷◌, ◌++◌, map, Option, Some, None, IfSome, option_map, Result, Ok, Err}
-use Rattle.std.specs.Prelude.{IfOk, IfErr, is_ok}
+use Rattle.std.specs.Prelude.{IfErr, is_ok}
 use Rattle.std.specs.List.{join_with_byte}
 use Rattle.std.specs.Option.{is_some}
-use Rattle.std.specs.Io.KnownBytes.{Keeps}
+use Rattle.std.specs.Io.KnownBytes.{Appends, Keeps}
+use Rattle.std.specs.declared.io.ErrorKind.{ErrorKind}
 use Rattle.daide_words.specs.declared.word.Word.{Word}
 use Rattle.daide_words.specs.Word.{names_of}
 use Rattle.daide_token.specs.Names.{Named}
@@ -28,12 +29,19 @@ use Rattle.daide_command_line.specs.declared.arguments.CheckOrder.{CheckOrder}
 use Rattle.daide_command_line.specs.declared.arguments.FrameOrder.{FrameOrder}
 use Rattle.daide_command_line.specs.declared.arguments.SettingsOrder.{SettingsOrder}
 use Rattle.toml.specs.Parse.{parse_document}
-use Rattle.daide_settings.specs.Causes.{IsJudgeCause, IsMemoryRefused, IsSettingsCause}
+use Rattle.daide_settings.specs.Causes.{IsMemoryRefused, IsSettingsCause}
 use Rattle.daide_settings.specs.declared.settings.Settings.{Settings}
 use Rattle.daide_settings.specs.declared.settings.SettingsError.TheVariants as settings_errors
-use Rattle.daide_settings.specs.Settings.{judged_settings}
+use Rattle.daide_settings.specs.declared.settings.judged.JudgeFault.TheVariants as judge_faults
+use Rattle.daide_settings.specs.Given.{given_of}
+use Rattle.daide_settings.specs.Report.{IsSettingsReport}
+use Rattle.daide_settings.specs.Settings.{Given, judged_settings}
 use Rattle.daide_tools.specs.declared.judging.SettingsFault.{SettingsFault}
 use Rattle.daide_tools.specs.declared.judging.SettingsFault.TheVariants as settings_faults
+use Rattle.daide_tools.specs.declared.trying.Trials.{Trials}
+use Rattle.daide_tools.specs.Needs.{needs_text}
+use Rattle.daide_tools.specs.Opened.{IsTextAt, ReadsNamed}
+use Rattle.daide_tools.specs.Trials.{passed_text, trials_status}
 
 -- the arguments as one text, if there are any, with a space between each two; otherwise the bytes of standard input
 abbrev pub given_by : Option (List (List ℕ)) → Option (List ℕ) → Option (List ℕ)
@@ -114,75 +122,113 @@ FrameEnds IsCause added input old new status =
 
 -- ---- `settings`
 
--- the status by the judgement, whose settings are there if the text has no fault; with `--try` a trial of their
--- addresses may fail
-abbrev pub IsSettingsStatus : Result (Option Settings) SettingsFault → Bool → ℕ → Type 0
-IsSettingsStatus (Ok (Some settings)) false status = status ≡ 0
-IsSettingsStatus (Ok (Some settings)) true status = status ≤ 1
-IsSettingsStatus (Ok None) tried status = status ≡ 1
-IsSettingsStatus (Err fault) tried status = status ≡ 1
+-- the judgement of a text: its settings, if it has no fault
+abbrev pub IsJudgement : List ℕ → Option Settings → Type 0
+IsJudgement text None = is_ok (judged_settings (parse_document text)) ≡ false
+IsJudgement text (Some settings) = judged_settings (parse_document text) ≡ Ok (given_of settings)
 
--- the judgement of a text: whether it has settings
-abbrev pub IsJudgement : List ℕ → Bool → Type 0
-IsJudgement text good = good ≡ is_ok (judged_settings (parse_document text))
+-- the output got the report of a text, and then what a run of its settings needs
+abbrev pub PrintsJudgement : List ℕ → Option Settings → Option (List ℕ) → Option (List ℕ) → Type 0
+PrintsJudgement text settings old new = (report : List ℕ) × IsSettingsReport (parse_document text) report
+    × Appends old new (report ++ needs_text settings)
 
 -- memory was refused, for the report or for the settings of a text
 abbrev pub AreSettingsRefused : (ℕ → Type 0) → (List ℕ → Type 0) → Type 0
 AreSettingsRefused Refuses RefusesText =
     IsMemoryRefused Refuses RefusesText ⊎ ((text : List ℕ) × IsSettingsCause RefusesText text settings_errors.Memory)
 
--- what happened outside, if a fault says so; of a file that cannot be read no clause does
-abbrev pub IsSettingsFaultCause : Type 0 → Type 0 → SettingsFault → Type 0
-IsSettingsFaultCause refused write (settings_faults.Text fault) = ⊤
-IsSettingsFaultCause refused write (settings_faults.Judge fault) = IsJudgeCause refused write fault
+-- what happened outside, by a fault, and the output: a failed write, or nothing was written. Of a file that cannot be read
+-- no clause says why.
+abbrev pub IsSettingsFault : Type 0 → Type 0 → Option (List ℕ) → Option (List ℕ) → SettingsFault → Type 0
+IsSettingsFault refused write old new (settings_faults.Text fault) = new ≡ old
+IsSettingsFault refused write old new (settings_faults.Judge judge_faults.Write) = write
+IsSettingsFault refused write old new (settings_faults.Judge judge_faults.Memory) = refused × (new ≡ old)
 
--- the status is that of a judgement, which is the one of a known text, and whose fault has its cause
-abbrev pub SettingsEnds : Type 0 → Type 0 → Bool → Option (List ℕ) → ℕ → Type 0
-SettingsEnds refused write tried known status = (answer : Result (Option Settings) SettingsFault)
-    × IfOk answer (λ settings. IfSome known (λ text. IsJudgement text (is_some settings)))
-    × IfErr answer (IsSettingsFaultCause refused write) × IsSettingsStatus answer tried status
+-- what was read is judged, and the judgement printed; or there is a fault
+abbrev pub JudgesText : Type 0 → Type 0 → Option (List ℕ) → Option (List ℕ) → Option (List ℕ) →
+    Result (Option Settings) SettingsFault → Type 0
+JudgesText refused write known old new (Ok settings) = (text : List ℕ) × IfSome known (λ all. text ≡ all)
+    × IsJudgement text settings × PrintsJudgement text settings old new
+JudgesText refused write known old new (Err fault) = IsSettingsFault refused write old new fault
+
+-- the trials of settings were made, and those that passed are printed; or a write failed
+abbrev pub TriesAddresses : Type 0 → Settings → Option (List ℕ) → Option (List ℕ) → ℕ → Type 0
+TriesAddresses write settings old new status =
+    ((trials : Trials) × (status ≡ trials_status trials) × Appends old new (passed_text (is_some settings.control) trials))
+    ⊎ (write × (status ≡ 1))
+
+-- the status after a judgement, and what `--try` writes then
+abbrev pub EndsJudged : Type 0 → Result (Option Settings) SettingsFault → Bool → Option (List ℕ) → Option (List ℕ) → ℕ →
+    Type 0
+EndsJudged write (Ok (Some settings)) false old new status = (status ≡ 0) × (new ≡ old)
+EndsJudged write (Ok (Some settings)) true old new status = TriesAddresses write settings old new status
+EndsJudged write (Ok None) tried old new status = (status ≡ 1) × (new ≡ old)
+EndsJudged write (Err fault) tried old new status = (status ≡ 1) × (new ≡ old)
+
+-- the status and the output are those of a judgement of what was read
+abbrev pub SettingsEnds : Type 0 → Type 0 → Bool → Option (List ℕ) → Option (List ℕ) → Option (List ℕ) → ℕ → Type 0
+SettingsEnds refused write tried known old new status =
+    (answer : Result (Option Settings) SettingsFault) × (judged : Option (List ℕ))
+    × JudgesText refused write known old judged answer × EndsJudged write answer tried judged new status
 
 -- ---- an order
-
--- The same for an order, by the bytes of standard input and by the rest of them that is unread. No clause knows the
--- contents of a file or the results of the operating system. So the words of settings are any words or a fault, which
--- writes nothing to the output, and a file's log is any log. `read`, `refused` and `write` say that a read failed, that
--- memory was refused and that a write failed.
-
-abbrev pub ShowRuns : Type 0 → Type 0 → Type 0 → ShowOrder → Option (List ℕ) → Option (List ℕ) → Option (List ℕ) → ℕ →
-    Type 0
-ShowRuns read refused write order known old new status =
-    ((order.words ≢ None) × (status ≡ 1) × Keeps old new)
-    ⊎ ((words : List Word) × (order.words ≡ None → words ≡ [])
-    × ShowEnds (shown.IsShowCause read refused write)
-    (record { words = words; side = order.side; level = order.level; explained = order.is_explained })
-    (given_by (option_map (λ typed. map (λ word. word.now) typed.now) order.typed) known) old new status)
-
--- the logs are standard input alone
-abbrev pub IsStandardInput : Option (List (List ℕ)) → Type 0
-IsStandardInput files = (files ≡ None) ⊎ (files ≡ Some (codes "-" ∷ []))
-
--- for several logs nothing is said
-abbrev pub CheckRuns : CheckOrder → Option (List ℕ) → Option (List ℕ) → Option (List ℕ) → Option (List ℕ) → ℕ → Type 0
-CheckRuns order known rest old new status =
-    IsStandardInput (option_map (λ files. map (λ file. file.now) files.now) order.files) →
-    ReportEnds order.is_explained known rest old new status
 
 -- of the arguments, which are read too, no clause says that a read failed
 abbrev pub read_by : Option (List (List ℕ)) → Type 0 → Type 0
 read_by None read = read
 read_by (Some words) read = ⊤
 
-abbrev pub FrameRuns : Type 0 → Type 0 → Type 0 → FrameOrder → Option (List ℕ) → Option (List ℕ) → Option (List ℕ) → ℕ →
-    Type 0
-FrameRuns read refused write order known old new status =
-    ((order.words ≢ None) × (status ≡ 1) × Keeps old new)
-    ⊎ ((words : List Word) × (order.words ≡ None → words ≡ [])
-    × FrameEnds
-    (IsTextCause (read_by (option_map (λ typed. map (λ word. word.now) typed.now) order.typed) read) refused write)
-    (names_of words)
-    (lines_by (option_map (λ typed. map (λ word. word.now) typed.now) order.typed) known) old new status)
+-- The same for an order, by the bytes of standard input and by the rest of them that is unread. `Opens` relates a name to
+-- what was opened by it, and `remaining` a file to its bytes. `read`, `refused` and `write` say that a read failed, that
+-- memory was refused and that a write failed.
+module _ {F : Type 0} (Opens : List ℕ → Result F ErrorKind → Type 0) (remaining : F → Option (List ℕ)) where
+  -- the settings of the file of this name
+  abbrev pub AreSettingsAt : List ℕ → Given → Type 0
+  AreSettingsAt name given =
+      (text : List ℕ) × IsTextAt Opens remaining name text × (judged_settings (parse_document text) ≡ Ok given)
 
-abbrev pub SettingsRuns : Type 0 → Type 0 → SettingsOrder → Option (List ℕ) → ℕ → Type 0
-SettingsRuns refused write order known status =
-    order.path.now ≡ codes "-" → SettingsEnds refused write order.is_tried known status
+  -- the words of a command: those of the settings of this name; none without one
+  abbrev pub AreWordsAt : Option (List ℕ) → List Word → Type 0
+  AreWordsAt None words = words ≡ []
+  AreWordsAt (Some name) words = (given : Given) × AreSettingsAt name given × (words ≡ given.words)
+
+  -- if the settings with the words give none, the status is 1, and nothing is written
+  abbrev pub ShowRuns : Type 0 → Type 0 → Type 0 → ShowOrder → Option (List ℕ) → Option (List ℕ) → Option (List ℕ) → ℕ →
+      Type 0
+  ShowRuns read refused write order known old new status =
+      ((order.words ≢ None) × (status ≡ 1) × Keeps old new)
+      ⊎ ((words : List Word) × AreWordsAt (option_map (λ name. name.now) order.words) words
+      × ShowEnds (shown.IsShowCause read refused write)
+      (record { words = words; side = order.side; level = order.level; explained = order.is_explained })
+      (given_by (option_map (λ typed. map (λ word. word.now) typed.now) order.typed) known) old new status)
+
+  -- Without a name the log is standard input. A log by its name is reported; if it can't be opened, the status is 1, and
+  -- nothing is written. For several logs nothing is said.
+  abbrev pub ListedEnds : Bool → Option (List (List ℕ)) → Option (List ℕ) → Option (List ℕ) → Option (List ℕ) →
+      Option (List ℕ) → ℕ → Type 0
+  ListedEnds explained None known rest old new status = ReportEnds explained known rest old new status
+  ListedEnds explained (Some []) known rest old new status = ⊤
+  ListedEnds explained (Some (name ∷ [])) known rest old new status = ReadsNamed Opens remaining name
+      (λ log left. ReportEnds explained log left old new status) ((status ≡ 1) × (new ≡ old)) known rest
+  ListedEnds explained (Some (name ∷ other ∷ names)) known rest old new status = ⊤
+
+  abbrev pub CheckRuns : CheckOrder → Option (List ℕ) → Option (List ℕ) → Option (List ℕ) → Option (List ℕ) → ℕ → Type 0
+  CheckRuns order known rest old new status = ListedEnds order.is_explained
+      (option_map (λ files. map (λ file. file.now) files.now) order.files) known rest old new status
+
+  -- as for `show`
+  abbrev pub FrameRuns : Type 0 → Type 0 → Type 0 → FrameOrder → Option (List ℕ) → Option (List ℕ) → Option (List ℕ) → ℕ →
+      Type 0
+  FrameRuns read refused write order known old new status =
+      ((order.words ≢ None) × (status ≡ 1) × Keeps old new)
+      ⊎ ((words : List Word) × AreWordsAt (option_map (λ name. name.now) order.words) words
+      × FrameEnds
+      (IsTextCause (read_by (option_map (λ typed. map (λ word. word.now) typed.now) order.typed) read) refused write)
+      (names_of words)
+      (lines_by (option_map (λ typed. map (λ word. word.now) typed.now) order.typed) known) old new status)
+
+  -- a text by its name is judged; if it can't be opened, the status is 1, and nothing is written
+  abbrev pub SettingsRuns : Type 0 → Type 0 → SettingsOrder → Option (List ℕ) → Option (List ℕ) → Option (List ℕ) →
+      Option (List ℕ) → ℕ → Type 0
+  SettingsRuns refused write order known rest old new status = ReadsNamed Opens remaining order.path.now
+      (λ text left. SettingsEnds refused write order.is_tried text old new status) ((status ≡ 1) × (new ≡ old)) known rest

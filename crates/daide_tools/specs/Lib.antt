@@ -1,3 +1,5 @@
 pub mod Controlling
 pub mod Endings
+pub mod Needs
+pub mod Opened
 pub mod Trials

@@ -2,17 +2,18 @@
 
 ghost use Rattle.std.specs.Prelude.{◌≡◌, ◌≤◌, IfOk};
 ghost use Rattle.daide_tools.specs.Endings.{check_status, explained_status, CheckRuns, ReportEnds};
+ghost use Rattle.daide_tools.specs.Opened.{ReadsNamed};
 
 use crate::faults::{CLEAN, FAULT, NOT_RELAYED, print_fault};
+use crate::opening::FileOpener;
 use crate::several::check_several;
 use daide_command_line::arguments::CheckOrder;
 use daide_log::{Explained, LineReason, LogFault, check_stream, explain_stream};
 use daide_protocol::Summary;
 use std::alloc::Allocator;
 use std::fmt::Display;
+use std::io;
 use std::io::{Read, Write};
-use std::rt::Files;
-use std::{fs, io};
 
 /// Reports what is wrong with a line that is not a log line, after the name of its log, if any. A failure to write it has
 /// no effect.
@@ -78,7 +79,8 @@ fn check_read<A: Allocator + Copy, I: Read, O: Write, E: Write>(
     output: &mut O,
     errors: &mut E,
 ) -> io::Result<u8>
-    ensures { IfOk result (ReportEnds is_explained (I.remaining input.old) (I.remaining input.new)
+    ensures bounded { IfOk result (λ status. status ≤ NOT_RELAYED) }
+    ensures reported { IfOk result (ReportEnds is_explained (I.remaining input.old) (I.remaining input.new)
         (O.contents output.old) (O.contents output.new)) }
 {
     let mut refused = None;
@@ -90,9 +92,37 @@ fn check_read<A: Allocator + Copy, I: Read, O: Write, E: Write>(
     end_check(answer, refused, errors)
 }
 
-/// Writes the report of the log at a path, or of standard input, or the reports of several logs and their table. No
-/// contract is about the contents of a file.
-pub fn run_check<R: AllocGlobal + Files, I: Read, O: Write, E: Write>(
+/// Writes the report of the log of this name, which is a file, or standard input for `-`.
+fn check_named<R: AllocGlobal + FileOpener, I: Read, O: Write, E: Write>(
+    rt: &R,
+    name: &str,
+    is_explained: bool,
+    input: &mut I,
+    output: &mut O,
+    errors: &mut E,
+) -> io::Result<u8>
+    ensures bounded { IfOk result (λ status. status ≤ NOT_RELAYED) }
+    ensures reported { IfOk result (λ status. ReadsNamed R.Opens R.File.remaining name.now
+        (λ log left. ReportEnds is_explained log left (O.contents output.old) (O.contents output.new) status)
+        ((status ≡ 1) × (O.contents output.new ≡ O.contents output.old))
+        (I.remaining input.old) (I.remaining input.new)) }
+{
+    if name == "-" {
+        return check_read(rt.alloc(), is_explained, input, output, errors);
+    }
+    match rt.open_input(name) {
+        Ok(mut file) => check_read(rt.alloc(), is_explained, &mut file, output, errors),
+        Err(_) => print_fault(errors, LogFault::Read, FAULT),
+    }
+}
+
+/// Writes the report of the log of a name, or of standard input, or the reports of several logs and their table.
+///
+/// `reported`: without a name, and for `-`, it is the report of standard input. For another name it is that of the file
+/// that was opened by it, and standard input is unread. If none could be opened, the status is 1, and nothing is written.
+///
+/// Not said: the reports of several logs, and why no file could be opened.
+pub fn run_check<R: AllocGlobal + FileOpener, I: Read, O: Write, E: Write>(
     rt: &R,
     order: CheckOrder<'_, '_>,
     input: &mut I,
@@ -100,23 +130,16 @@ pub fn run_check<R: AllocGlobal + Files, I: Read, O: Write, E: Write>(
     errors: &mut E,
 ) -> io::Result<u8>
     ensures bounded { IfOk result (λ status. status ≤ NOT_RELAYED) }
-    ensures reported { IfOk result (CheckRuns order.entry (I.remaining input.old) (I.remaining input.new)
-        (O.contents output.old) (O.contents output.new)) }
+    ensures reported { IfOk result (CheckRuns R.Opens R.File.remaining order.entry (I.remaining input.old)
+        (I.remaining input.new) (O.contents output.old) (O.contents output.new)) }
 {
     let CheckOrder {
         files,
         is_explained,
     } = order;
-    let path = match files {
-        None => "-",
-        Some([path]) => *path,
-        Some(paths) => return check_several(rt, paths, is_explained, input, output, errors),
-    };
-    if path == "-" {
-        return check_read(rt.alloc(), is_explained, input, output, errors);
-    }
-    match fs::open(rt, path) {
-        Ok(mut file) => check_read(rt.alloc(), is_explained, &mut file, output, errors),
-        Err(_) => print_fault(errors, LogFault::Read, FAULT),
+    match files {
+        None => check_read(rt.alloc(), is_explained, input, output, errors),
+        Some([name]) => check_named(rt, name, is_explained, input, output, errors),
+        Some(names) => check_several(rt, names, is_explained, input, output, errors),
     }
 }

@@ -9,6 +9,7 @@ ghost use Rattle.daide_status.specs.Requests.{request_text};
 ghost use Rattle.daide_tools.specs.Controlling.{AnswersOver, EndsAfter, IsAnswerPrinted, request_line, stop_request, longest_answer};
 
 use crate::faults::{CLEAN, FAULT, print_fault};
+use crate::opening::{FileOpener, connect};
 use crate::settings_file::{SettingsFileFault, settings_at};
 use daide_command_line::arguments::{StatusOrder, StopOrder};
 use daide_settings::ControlPath;
@@ -16,8 +17,6 @@ use daide_status::{ControlRequest, Format};
 use std::alloc::Global;
 use std::io::{ErrorKind, Read, Write};
 use std::net::Net;
-use std::os::unix::net::UnixStream;
-use std::rt::Files;
 use std::time::Duration;
 use std::{fmt, io};
 
@@ -122,22 +121,6 @@ fn print_answer<O: Write>(answer: &[u8], output: &mut O) -> Result<(), RequestFa
     }
 }
 
-/// Connects to the run at a path. Each read waits for this time at most; without one it waits until something comes.
-fn connect<R: Net>(
-    rt: &R,
-    path: &ControlPath,
-    timeout: Option<Duration>,
-) -> Result<UnixStream, RequestFault> {
-    let stream = match UnixStream::connect(rt, path.as_str()) {
-        Ok(stream) => stream,
-        Err(error) => return Err(RequestFault::Unreached(error.kind())),
-    };
-    match stream.set_read_timeout(timeout) {
-        Ok(()) => Ok(stream),
-        Err(error) => Err(RequestFault::Unreached(error.kind())),
-    }
-}
-
 /// Requests a status over a stream, and prints the answer.
 fn status_over<S: Read + Write, O: Write>(
     alloc: Global,
@@ -162,7 +145,7 @@ fn print_status<R: AllocGlobal + Net, O: Write>(
     ensures { OnOk result (IsAnswerPrinted (O.contents output.old) (O.contents output.new)) }
 {
     let timeout = Duration::from_secs(ANSWER_SECONDS);
-    let mut stream = connect(rt, path, Some(timeout))?;
+    let mut stream = connect(rt, path.as_str(), Some(timeout)).map_err(RequestFault::Unreached)?;
     status_over(rt.alloc(), request, &mut stream, output)
 }
 
@@ -192,7 +175,7 @@ fn stop_run<R: Net>(rt: &R, path: &ControlPath, order: StopOrder<'_>) -> Result<
     let timeout = order
         .timeout
         .map(|seconds| Duration::from_secs(seconds as u64));
-    let mut stream = connect(rt, path, timeout)?;
+    let mut stream = connect(rt, path.as_str(), timeout).map_err(RequestFault::Unreached)?;
     stop_over(order.is_now, &mut stream)
 }
 
@@ -250,7 +233,7 @@ fn status_of<R: AllocGlobal + Net, O: Write, E: Write>(
 }
 
 /// Prints the status of the run with the settings of a file. Returns the status of the program.
-pub fn run_status<R: AllocGlobal + Files + Net, O: Write, E: Write>(
+pub fn run_status<R: AllocGlobal + FileOpener + Net, O: Write, E: Write>(
     rt: &R,
     order: StatusOrder<'_>,
     output: &mut O,
@@ -286,7 +269,7 @@ fn stop_of<R: Net, E: Write>(
 
 /// Stops the run with the settings of a file, and waits until it is over. Returns the status of the program. Nothing is
 /// written to the output.
-pub fn run_stop<R: AllocGlobal + Files + Net, E: Write>(
+pub fn run_stop<R: AllocGlobal + FileOpener + Net, E: Write>(
     rt: &R,
     order: StopOrder<'_>,
     errors: &mut E,

@@ -9,6 +9,7 @@ ghost use Rattle.daide_text.specs.Frames.{IsTextCause};
 ghost use Rattle.daide_tools.specs.Endings.{frame_status, FrameEnds, FrameRuns};
 
 use crate::faults::{CLEAN, FAULT, print_fault};
+use crate::opening::FileOpener;
 use crate::settings_file::words_at;
 use crate::typed::joined;
 use daide_causes::{Growth, Sink, Source};
@@ -18,7 +19,6 @@ use daide_words::Words;
 use std::alloc::AllocError;
 use std::io;
 use std::io::Write;
-use std::rt::Files;
 
 /// Reports a fault of a message on standard error, and what is wrong with a text that is not an item. Returns the
 /// status. A failure to write the latter has no effect.
@@ -85,7 +85,7 @@ fn line_of<A: Growth>(alloc: A, words: &[&str]) -> Result<Vec<u8, A>, AllocError
 /// before it, and each fault has its cause.
 ///
 /// Not said: that no read of the arguments fails.
-pub fn run_frame<A: Growth + Copy, R: AllocGlobal + Files, I: Source, O: Sink, E: Write>(
+pub fn run_frame<A: Growth + Copy, R: AllocGlobal + FileOpener, I: Source, O: Sink, E: Write>(
     alloc: A,
     rt: &R,
     order: FrameOrder<'_, '_>,
@@ -94,8 +94,8 @@ pub fn run_frame<A: Growth + Copy, R: AllocGlobal + Files, I: Source, O: Sink, E
     errors: &mut E,
 ) -> io::Result<u8>
     ensures bounded { IfOk result (λ status. status ≤ FAULT) }
-    ensures framed { IfOk result (FrameRuns (HasFailed I.Fails) (WasRefused A.Refuses) (HasFailed O.Fails) order.entry
-        (I.remaining input.old) (O.contents output.old) (O.contents output.new)) }
+    ensures framed { IfOk result (FrameRuns R.Opens R.File.remaining (HasFailed I.Fails) (WasRefused A.Refuses)
+        (HasFailed O.Fails) order.entry (I.remaining input.old) (O.contents output.old) (O.contents output.new)) }
 {
     let words = match words_at(rt, order.words) {
         Ok(words) => words,

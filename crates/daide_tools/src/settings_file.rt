@@ -1,14 +1,16 @@
 //! A file of settings: its text, which has a bounded length, and what it sets.
 
-ghost use Rattle.std.specs.Prelude.{◌≡◌, ◌≤◌, None, [], length, string_bytes, IfOk, IfSome, IsOkAnd};
+ghost use Rattle.std.specs.Prelude.{◌≡◌, ◌≢◌, ◌≤◌, None, length, option_map, string_bytes, IfOk, IfSome, OnErr};
+ghost use Rattle.daide_settings.specs.Given.{given_of};
 ghost use Rattle.daide_words.specs.Words.{words_of};
+ghost use Rattle.daide_tools.specs.Endings.{AreSettingsAt, AreWordsAt};
+ghost use Rattle.daide_tools.specs.Opened.{IsTextAt};
 
+use crate::opening::FileOpener;
 use daide_settings::{Settings, SettingsError, judge_settings, read_settings};
 use daide_words::Words;
 use std::alloc::{AllocError, Allocator, Global};
-use std::fs;
 use std::io::{ErrorKind, Read};
-use std::rt::Files;
 use thiserror::Error;
 
 /// The most bytes of a text of settings.
@@ -57,14 +59,16 @@ pub fn read_text<'a, A: Allocator, I: Read>(
     }
 }
 
-/// Reads the text of a file of settings.
-pub fn text_at<'a, R: AllocGlobal + Files>(
+/// Reads the text of the file of settings of this name.
+pub fn text_at<'a, R: AllocGlobal + FileOpener>(
     rt: &R,
     path: &'a str,
-) -> Result<String, SettingsFileFault<'a>> {
-    match fs::open(rt, path) {
+) -> Result<String, SettingsFileFault<'a>>
+    ensures { IfOk result (λ text. IsTextAt R.Opens R.File.remaining path.now (string_bytes text)) }
+{
+    match rt.open_input(path) {
         Ok(mut file) => read_text(rt.alloc(), path, &mut file),
-        Err(error) => Err(SettingsFileFault::Unreadable(path, error.kind())),
+        Err(cause) => Err(SettingsFileFault::Unreadable(path, cause)),
     }
 }
 
@@ -83,11 +87,13 @@ fn refusal_of(alloc: Global, text: &str) -> Result<String, AllocError> {
     String::from_str(alloc, report.lines().next().unwrap_or(""))
 }
 
-/// Reads the settings of a file.
-pub(crate) fn settings_at<'a, R: AllocGlobal + Files>(
+/// Reads the settings of the file of this name.
+pub(crate) fn settings_at<'a, R: AllocGlobal + FileOpener>(
     rt: &R,
     path: &'a str,
-) -> Result<Settings, SettingsFileFault<'a>> {
+) -> Result<Settings, SettingsFileFault<'a>>
+    ensures { IfOk result (λ settings. AreSettingsAt R.Opens R.File.remaining path.now (given_of settings)) }
+{
     let text = text_at(rt, path)?;
     match read_settings(rt.alloc(), text.as_str()) {
         Ok(settings) => Ok(settings),
@@ -100,14 +106,19 @@ pub(crate) fn settings_at<'a, R: AllocGlobal + Files>(
 }
 
 /// Returns the words of the settings at a path; without a path, no words.
-pub(crate) fn words_at<'a, R: AllocGlobal + Files>(
+pub(crate) fn words_at<'a, R: AllocGlobal + FileOpener>(
     rt: &R,
     path: Option<&'a str>,
 ) -> Result<Words, SettingsFileFault<'a>>
-    ensures { path.entry ≡ None → IsOkAnd result (λ words. words_of words ≡ []) }
+    ensures words { IfOk result (λ words. AreWordsAt R.Opens R.File.remaining (option_map (λ name. name.now) path.entry)
+        (words_of words)) }
+    ensures none { OnErr result (path.entry ≢ None) }
 {
     match path {
         None => Ok(Words::new()),
-        Some(path) => settings_at(rt, path).map(|settings| settings.words),
+        Some(path) => match settings_at(rt, path) {
+            Ok(settings) => Ok(settings.words),
+            Err(fault) => Err(fault),
+        },
     }
 }

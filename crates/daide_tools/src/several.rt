@@ -4,12 +4,12 @@ ghost use Rattle.std.specs.Prelude.{◌≡◌, ◌≤◌, IfOk};
 
 use crate::checking::print_reason;
 use crate::faults::{CLEAN, FAULT, NOT_RELAYED, print_fault};
+use crate::opening::FileOpener;
 use daide_log::{LineReason, LogFault, check_observed, explain_observed};
 use daide_transcript::{Sessions, write_table};
 use std::alloc::{Allocator, Global};
+use std::io;
 use std::io::{ErrorKind, Read, Write};
-use std::rt::Files;
-use std::{fs, io};
 
 /// A fault of a log, and why its line is not a log line.
 #[derive(Clone, Copy)]
@@ -84,7 +84,7 @@ fn write_name<O: Write>(path: &str, output: &mut O) -> io::Result<()> {
 }
 
 /// Writes the name and the report of the log at a path, or of standard input for `-`. Returns what `is_clean` does.
-fn report_at<R: AllocGlobal + Files, I: Read, O: Write>(
+fn report_at<R: AllocGlobal + FileOpener, I: Read, O: Write>(
     rt: &R,
     path: &str,
     is_explained: bool,
@@ -99,7 +99,7 @@ fn report_at<R: AllocGlobal + Files, I: Read, O: Write>(
     if path == "-" {
         return report_read(rt.alloc(), is_explained, input, output, sessions);
     }
-    match fs::open(rt, path) {
+    match rt.open_input(path) {
         Ok(mut file) => report_read(rt.alloc(), is_explained, &mut file, output, sessions),
         Err(_) => Err(RefusedLog::without_line(LogFault::Read)),
     }
@@ -138,7 +138,7 @@ fn end_with_table<O: Write, E: Write>(
 
 /// Writes the reports of logs, each after its name, and a table of their sessions. A log with a fault does not keep the
 /// others from their reports.
-pub(crate) fn check_several<R: AllocGlobal + Files, I: Read, O: Write, E: Write>(
+pub(crate) fn check_several<R: AllocGlobal + FileOpener, I: Read, O: Write, E: Write>(
     rt: &R,
     paths: &[&str],
     is_explained: bool,

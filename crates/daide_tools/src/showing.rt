@@ -7,6 +7,7 @@ ghost use Rattle.daide_show.specs.Shown.{IsShowCause, request_of};
 ghost use Rattle.daide_tools.specs.Endings.{show_status, ShowEnds, ShowRuns};
 
 use crate::faults::{CLEAN, FAULT, NOT_RELAYED, print_fault};
+use crate::opening::FileOpener;
 use crate::settings_file::words_at;
 use crate::typed::joined;
 use daide_causes::{Growth, Sink, Source};
@@ -16,7 +17,6 @@ use daide_show::{Request, ShowFault, input_note, odd_group, read_input, show_inp
 use std::alloc::Allocator;
 use std::io;
 use std::io::Write;
-use std::rt::Files;
 
 /// Writes why an input is not one frame in digits. A failure to write it has no effect.
 fn write_note<A: Allocator + Copy, E: Write>(alloc: A, input: &[u8], errors: &mut E) {
@@ -121,7 +121,7 @@ fn show_words<A: Growth + Copy, O: Sink, E: Write>(
 ///
 /// `shown`: if the settings are read, the status is that of the result of `show_input` or of a fault before it, and each
 /// fault has its cause.
-pub fn run_show<A: Growth + Copy, R: AllocGlobal + Files, I: Source, O: Sink, E: Write>(
+pub fn run_show<A: Growth + Copy, R: AllocGlobal + FileOpener, I: Source, O: Sink, E: Write>(
     alloc: A,
     rt: &R,
     order: ShowOrder<'_, '_>,
@@ -130,8 +130,8 @@ pub fn run_show<A: Growth + Copy, R: AllocGlobal + Files, I: Source, O: Sink, E:
     errors: &mut E,
 ) -> io::Result<u8>
     ensures bounded { IfOk result (λ status. status ≤ NOT_RELAYED) }
-    ensures shown { IfOk result (ShowRuns (HasFailed I.Fails) (WasRefused A.Refuses) (HasFailed O.Fails) order.entry
-        (I.remaining input.old) (O.contents output.old) (O.contents output.new)) }
+    ensures shown { IfOk result (ShowRuns R.Opens R.File.remaining (HasFailed I.Fails) (WasRefused A.Refuses)
+        (HasFailed O.Fails) order.entry (I.remaining input.old) (O.contents output.old) (O.contents output.new)) }
 {
     let words = match words_at(rt, order.words) {
         Ok(words) => words,

@@ -3,14 +3,14 @@
 ghost use Rattle.std.specs.Prelude.{◌≡◌, ◌≤◌, IfOk};
 
 use crate::faults::{CLEAN, FAULT, print_fault};
+use crate::opening::FileOpener;
 use crate::several::{RefusedLog, print_refused_log};
 use daide_command_line::arguments::TranscriptOrder;
 use daide_log::{LogFault, explain_observed};
 use daide_transcript::{MessageFormat, Transcript};
 use std::alloc::Allocator;
+use std::io;
 use std::io::{ErrorKind, Read, Write};
-use std::rt::Files;
-use std::{fs, io};
 
 /// Adds the messages of a log.
 fn add_read<A: Allocator + Copy, I: Read>(
@@ -26,7 +26,7 @@ fn add_read<A: Allocator + Copy, I: Read>(
 }
 
 /// Adds the messages of the log at a path, or of standard input for `-`.
-fn add_at<'a, R: AllocGlobal + Files, I: Read>(
+fn add_at<'a, R: AllocGlobal + FileOpener, I: Read>(
     rt: &R,
     path: &'a str,
     input: &mut I,
@@ -36,7 +36,7 @@ fn add_at<'a, R: AllocGlobal + Files, I: Read>(
     if path == "-" {
         return add_read(rt.alloc(), input, transcript);
     }
-    match fs::open(rt, path) {
+    match rt.open_input(path) {
         Ok(mut file) => add_read(rt.alloc(), &mut file, transcript),
         Err(_) => Err(RefusedLog::without_line(LogFault::Read)),
     }
@@ -44,7 +44,7 @@ fn add_at<'a, R: AllocGlobal + Files, I: Read>(
 
 /// Prints the messages of the logs at paths, or of standard input. A log with a fault does not keep the others from
 /// being read.
-pub fn run_transcript<R: AllocGlobal + Files, I: Read, O: Write, E: Write>(
+pub fn run_transcript<R: AllocGlobal + FileOpener, I: Read, O: Write, E: Write>(
     rt: &R,
     order: TranscriptOrder<'_, '_>,
     input: &mut I,

@@ -2,11 +2,15 @@
 //!
 //! The operating system decides what passes, so the contracts are about any results.
 
-ghost use Rattle.std.specs.Prelude.{◌≡◌, ◌≤◌, IfOk};
+ghost use Rattle.std.specs.Prelude.{◌≡◌, ◌≤◌, IfOk, OnErr, OnOk};
+ghost use Rattle.std.specs.Io.KnownBytes.{Appends};
 ghost use Rattle.std.specs.Option.{is_some};
-ghost use Rattle.daide_tools.specs.Trials.{trials_status};
+ghost use Rattle.daide_causes.specs.Causes.{HasFailed};
+ghost use Rattle.daide_tools.specs.Endings.{TriesAddresses};
+ghost use Rattle.daide_tools.specs.Trials.{control_text, listen_text, passed_text, server_text, trials_status};
 
 use crate::faults::{CLEAN, FAULT, print_fault};
+use daide_causes::Sink;
 use daide_settings::{JudgeFault, Key, Settings};
 use daide_sockets::addresses::{AddressFault, try_connect, try_listen};
 use daide_sockets::control_listener::try_control;
@@ -42,18 +46,53 @@ fn trials_of<R: AllocGlobal + Files + Clock + Net>(rt: &R, settings: &Settings) 
     }
 }
 
+/// Writes a comment of TOML if the trial of `listen` passed.
+fn write_listen<O: Sink>(listen: Result<SocketAddr, AddressFault>, output: &mut O) -> io::Result<()>
+    ensures written { OnOk result (Appends (O.contents output.old) (O.contents output.new) (listen_text listen)) }
+    ensures failed { OnErr result (HasFailed O.Fails) }
+{
+    match listen {
+        Ok(address) => output.write_text(format_args_nl!("# listen: {address} is free")),
+        Err(_) => Ok(()),
+    }
+}
+
+/// Writes a comment of TOML if the trial of `server` passed.
+fn write_server<O: Sink>(server: Result<SocketAddr, AddressFault>, output: &mut O) -> io::Result<()>
+    ensures written { OnOk result (Appends (O.contents output.old) (O.contents output.new) (server_text server)) }
+    ensures failed { OnErr result (HasFailed O.Fails) }
+{
+    match server {
+        Ok(address) => output.write_text(format_args_nl!("# server: reached at {address}")),
+        Err(_) => Ok(()),
+    }
+}
+
+/// Writes a comment of TOML if the settings have a control socket and its trial passed.
+fn write_control<O: Sink>(
+    has_control: bool,
+    control: Result<(), AddressFault>,
+    output: &mut O,
+) -> io::Result<()>
+    ensures written { OnOk result (Appends (O.contents output.old) (O.contents output.new)
+        (control_text has_control control)) }
+    ensures failed { OnErr result (HasFailed O.Fails) }
+{
+    match (has_control, control) {
+        (true, Ok(())) => output.write_whole(b"# control: its path is free\n"),
+        _ => Ok(()),
+    }
+}
+
 /// Writes a comment of TOML for each trial that passed.
-fn write_passed<O: Write>(settings: &Settings, trials: Trials, output: &mut O) -> io::Result<()> {
-    if let Ok(address) = trials.listen {
-        writeln!(output, "# listen: {address} is free")?;
-    }
-    if let Ok(address) = trials.server {
-        writeln!(output, "# server: reached at {address}")?;
-    }
-    if settings.control.is_some() && trials.control.is_ok() {
-        writeln!(output, "# control: its path is free")?;
-    }
-    Ok(())
+fn write_passed<O: Sink>(settings: &Settings, trials: Trials, output: &mut O) -> io::Result<()>
+    ensures written { OnOk result (Appends (O.contents output.old) (O.contents output.new)
+        (passed_text (is_some settings.now.control) trials)) }
+    ensures failed { OnErr result (HasFailed O.Fails) }
+{
+    write_listen(trials.listen, output)?;
+    write_server(trials.server, output)?;
+    write_control(settings.control.is_some(), trials.control, output)
 }
 
 /// Reports the fault of the value of a key, if it has one. Returns true if it has.
@@ -89,13 +128,14 @@ fn print_failed<E: Write>(settings: &Settings, trials: Trials, errors: &mut E) -
 }
 
 /// Tries the addresses of settings without a fault, and reports what passed and what failed. Returns the status.
-pub(crate) fn try_settings<R: AllocGlobal + Files + Clock + Net, O: Write, E: Write>(
+pub(crate) fn try_settings<R: AllocGlobal + Files + Clock + Net, O: Sink, E: Write>(
     rt: &R,
     settings: &Settings,
     output: &mut O,
     errors: &mut E,
 ) -> io::Result<u8>
-    ensures { IfOk result (λ status. status ≤ FAULT) }
+    ensures bounded { IfOk result (λ status. status ≤ FAULT) }
+    ensures tried { IfOk result (TriesAddresses (HasFailed O.Fails) settings.now (O.contents output.old) (O.contents output.new)) }
 {
     let trials = trials_of(rt, settings);
     match write_passed(settings, trials, output) {

@@ -1,4 +1,4 @@
-use Rattle.std.proofs.Common.{inl, inr, rules}
+use Rattle.std.proofs.Common.{inl, inr}
 use Rattle.std.proofs.lemmas.Result.{IfOk-weaker}
 use Rattle.daide_words.specs.Words.{words_of}
 use Rattle.daide_tools.proofs.EndingLemmas.{keeps_same}
@@ -7,14 +7,14 @@ use Rattle.daide_tools.proofs.framing.run_frame.Goals as goal
 pub returns-in-Err-clause-framed : goal.returns-in-Err-clause-framed
 returns-in-Err-clause-framed g c =
     IfOk-weaker c.print_fault.result _ _
-    (λ status e. inl (c.in-Err.ensures, e, keeps_same (g.O.Write.contents c.args.output.now))) c.print_fault.ensures
+    (λ status e. inl (c.in-Err.ensures.none, e, keeps_same (g.O.Write.contents c.args.output.now))) c.print_fault.ensures
 
 pub returns-in-Some-clause-framed : goal.returns-in-Some-clause-framed
 returns-in-Some-clause-framed g c =
     IfOk-weaker c.frame_words.result _ _
-    (λ status h. inr (words_of c.in-Ok.words, (λ none. search rules), rw c.in-Some.is h)) c.frame_words.ensures
+    (λ status h. inr (words_of c.in-Ok.words, c.in-Ok.ensures.words, rw c.in-Some.is h)) c.frame_words.ensures
 
 pub returns-in-None-clause-framed : goal.returns-in-None-clause-framed
 returns-in-None-clause-framed g c =
     IfOk-weaker c.frame_read.result _ _
-    (λ status h. inr (words_of c.in-Ok.words, (λ none. search rules), rw c.in-None.is h)) c.frame_read.ensures
+    (λ status h. inr (words_of c.in-Ok.words, c.in-Ok.ensures.words, rw c.in-None.is h)) c.frame_read.ensures

@@ -1,4 +1,4 @@
-use Rattle.std.proofs.Common.{inl, inr, rules}
+use Rattle.std.proofs.Common.{inl, inr}
 use Rattle.std.proofs.lemmas.Result.{IfErr-weaker, IfOk-weaker}
 use Rattle.daide_causes.specs.Causes.{HasFailed, WasRefused}
 use Rattle.daide_show.specs.Shown.{IsShowCause}
@@ -9,7 +9,7 @@ use Rattle.daide_tools.proofs.showing.run_show.Goals as goal
 pub returns-in-Err-clause-shown : goal.returns-in-Err-clause-shown
 returns-in-Err-clause-shown g c =
     IfOk-weaker c.print_fault.result _ _
-    (λ status e. inl (c.in-Err.ensures, e, keeps_same (g.O.Write.contents c.args.output.now))) c.print_fault.ensures
+    (λ status e. inl (c.in-Err.ensures.none, e, keeps_same (g.O.Write.contents c.args.output.now))) c.print_fault.ensures
 
 pub returns-in-Some-clause-shown : goal.returns-in-Some-clause-shown
 returns-in-Some-clause-shown g c =
@@ -18,7 +18,7 @@ returns-in-Some-clause-shown g c =
     IfOk-weaker c.show_words.result _ _
     (λ status h. inr (
       words_of c.in-Ok.words,
-      (λ none. search rules),
+      c.in-Ok.ensures.words,
       rw c.in-Some.is (
         h.0,
         h.1,
@@ -32,4 +32,4 @@ returns-in-Some-clause-shown g c =
 pub returns-in-None-clause-shown : goal.returns-in-None-clause-shown
 returns-in-None-clause-shown g c =
     IfOk-weaker c.show_read.result _ _
-    (λ status h. inr (words_of c.in-Ok.words, (λ none. search rules), rw c.in-None.is h)) c.show_read.ensures
+    (λ status h. inr (words_of c.in-Ok.words, c.in-Ok.ensures.words, rw c.in-None.is h)) c.show_read.ensures
