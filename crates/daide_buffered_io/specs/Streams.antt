@@ -1,18 +1,13 @@
 -- The effect of the calls of a session's ports on its two streams. (own)
 use Rattle.std.specs.Prelude.{◌≡◌, ℕ, Bool, true, false, List, [], ◌∷◌, ◌++◌, Option, if◌then◌else◌}
 use Rattle.daide_frame.specs.declared.side.Side.{Side}
-use Rattle.daide_frame.specs.declared.side.Side.TheVariants.{Bot, Server}
+use Rattle.daide_frame.specs.PerSide.{PerSide, at}
 use Rattle.daide_frame.specs.Side.{same_side}
 use Rattle.daide_io.specs.Ports.{PortCall, TurnBegins, Clock, Pulled, Offered, took}
 use Rattle.daide_io.specs.declared.ports.Pull.TheVariants.{Got, Idle, Ended}
 use Rattle.daide_buffered_io.specs.Buffers.{Buffer, Passes, ReadsNothing}
 
 -- ---- the effect of one call on the streams
-
--- a side's stream, from the pair of both
-abbrev pub stream_of : {S : Type 0} → S × S → Side → S
-stream_of streams Bot = streams.0
-stream_of streams Server = streams.1
 
 -- the bytes that a call returned from this side's stream
 abbrev pub pulled_bytes : Side → PortCall → List ℕ
@@ -45,10 +40,9 @@ is_question (Offered to bytes put) = false
 -- The effect of one call on the buffered streams of bot and server. Each returned the bytes that the call returned from
 -- it, and accepted those that the call put to it. From a stream that the call does not concern nothing is read, and
 -- only its write buffer is written. A question changes neither.
-pub record Transfers {S : Type 0} (to_give got : S → Option (List ℕ)) (old : Buffer S × Buffer S) (call : PortCall)
-    (new : Buffer S × Buffer S) : Type 0 where
+pub record Transfers {S : Type 0} (to_give got : S → Option (List ℕ)) (old : PerSide (Buffer S)) (call : PortCall)
+    (new : PerSide (Buffer S)) : Type 0 where
   pub passes : (side : Side) →
-      Passes to_give got (stream_of old side) (pulled_bytes side call) (took side call) (stream_of new side)
-  pub unread : (side : Side) → is_of side call ≡ false →
-      ReadsNothing to_give (stream_of old side) (stream_of new side)
+      Passes to_give got (at old side) (pulled_bytes side call) (took side call) (at new side)
+  pub unread : (side : Side) → is_of side call ≡ false → ReadsNothing to_give (at old side) (at new side)
   pub unchanged : is_question call ≡ true → new ≡ old

@@ -1,6 +1,7 @@
 -- Ports over two streams move the bytes of their calls, in a run too.
 use Rattle.std.proofs.Common.{◌≡◌, ℕ, List, [], ◌∷◌, Option, ap}
 use Rattle.std.specs.Prelude.{Contains}
+use Rattle.daide_frame.specs.PerSide.{PerSide}
 use Rattle.daide_io.specs.Ports.{PortCall, TurnBegins, Clock, Pulled, Offered, EvolvesBy}
 use Rattle.daide_io.specs.declared.ports.Pull.TheVariants.{Got, Idle, Ended}
 use Rattle.daide_settings.specs.declared.settings.Settings.{Settings}
@@ -15,7 +16,7 @@ use Rattle.daide_run.specs.Exchanged.{Exchanges}
 use Rattle.daide_run.proofs.StreamLemmas.{exchanged}
 
 -- a pull moves the same bytes, however large its buffer is
-pub transfers_within : {S : Type 0} (to_give taken : S → Option (List ℕ)) (call : PortCall) (old new : Buffer S × Buffer S) →
+pub transfers_within : {S : Type 0} (to_give taken : S → Option (List ℕ)) (call : PortCall) (old new : PerSide (Buffer S)) →
     Transfers to_give taken old (asked_within call) new → Transfers to_give taken old call new
 transfers_within to_give taken TurnBegins old new h = h
 transfers_within to_give taken (Clock event) old new h = h
@@ -28,7 +29,7 @@ transfers_within to_give taken (Pulled side room Ended bytes) old new h =
 transfers_within to_give taken (Offered side bytes put) old new h = h
 
 -- ports whose calls move the bytes of two streams, whatever else they do
-module _ {P S : Type 0} (streams : P → Buffer S × Buffer S) (to_give taken : S → Option (List ℕ))
+module _ {P S : Type 0} (streams : P → PerSide (Buffer S)) (to_give taken : S → Option (List ℕ))
     (transition : P → PortCall → P → Type 0)
     (moves : (old : P) (answer : PortCall) (new : P) → transition old answer new →
     Transfers to_give taken (streams old) answer (streams new)) where

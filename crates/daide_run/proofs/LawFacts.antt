@@ -3,6 +3,7 @@ use Rattle.std.proofs.Common.{◌≡◌, ℕ, ◌+◌, true, false, List, [], �
 use Rattle.std.specs.Prelude.{Contains}
 use Rattle.std.specs.Io.KnownBytes.{Consumes}
 use Rattle.daide_frame.specs.declared.side.Side.TheVariants.{Bot}
+use Rattle.daide_frame.specs.PerSide.{PerSide}
 use Rattle.daide_protocol.specs.Machine.{Limits}
 use Rattle.daide_io.specs.Ports.{PortCall, Pulled, EvolvesBy}
 use Rattle.daide_io.specs.System.{no_orders, Polls, Accepts, Connects, TransitsBy}
@@ -30,15 +31,15 @@ two_came to_give taken calls law pair old new none goes =
 
 -- one byte heard from the bot is the next byte of its stream
 heard_one : {S : Type 0} (to_give got : S → Option (List ℕ)) → SessionsExchange to_give got → (limits : Limits)
-    (first now : Buffer S × Buffer S) (g : SessionView) →
+    (first now : PerSide (Buffer S)) (g : SessionView) →
     EvolvesBy (Transfers to_give got) first (Pulled Bot 4 (Got 1) (7 ∷ []) ∷ []) now →
-    IsBoundedAndExact limits (Pulled Bot 4 (Got 1) (7 ∷ []) ∷ []) g → first.0.read_buffer ≡ [] →
-    Consumes (to_give first.0.stream) (to_give now.0.stream) (7 ∷ now.0.read_buffer)
+    IsBoundedAndExact limits (Pulled Bot 4 (Got 1) (7 ∷ []) ∷ []) g → first.bot.read_buffer ≡ [] →
+    Consumes (to_give first.bot.stream) (to_give now.bot.stream) (7 ∷ now.bot.read_buffer)
 heard_one to_give got law limits first now g moves exact none =
     (law limits (Pulled Bot 4 (Got 1) (7 ∷ []) ∷ []) first now g moves exact).heard Bot none
 
 -- a session that a run served began with ports that a connect delivered
-came_by_a_connect : {P S : Type 0} (transition : P → PortCall → P → Type 0) (streams : P → Buffer S × Buffer S)
+came_by_a_connect : {P S : Type 0} (transition : P → PortCall → P → Type 0) (streams : P → PerSide (Buffer S))
     (to_give taken : S → Option (List ℕ)) → ServedSessionsExchange transition streams to_give taken →
     (settings : Settings) (given : P) (now : SlotView P) →
     IsServed transition settings (Connects 3 (Ready given) ∷ []) now →

@@ -7,6 +7,7 @@ use Rattle.daide_frame.specs.declared.side.Side.TheVariants.{Bot, Server}
 use Rattle.daide_protocol.specs.Events.{Event, Comes, Ends, Loses, ImTimerExpired, OperatorStops, bytes_come}
 use Rattle.daide_protocol.specs.Heard.{bytes_from}
 use Rattle.daide_protocol.specs.Machine.{Limits}
+use Rattle.daide_frame.specs.PerSide.{PerSide, at}
 use Rattle.daide_frame.specs.Side.{same_side}
 use Rattle.daide_protocol.specs.Wires.{SessionView, sent_bytes, queued}
 use Rattle.daide_driver.specs.Headline.{IsBoundedAndExact, untouched}
@@ -18,7 +19,7 @@ use Rattle.daide_io.specs.Ports.{taken}
 use Rattle.daide_io.specs.declared.ports.Pull.TheVariants.{Got, Idle, Ended}
 use Rattle.daide_io.specs.declared.ports.Put.TheVariants.{Took, Failed}
 use Rattle.daide_buffered_io.specs.Buffers.{Buffer, Passes}
-use Rattle.daide_buffered_io.specs.Streams.{stream_of, pulled_bytes, given, Transfers}
+use Rattle.daide_buffered_io.specs.Streams.{pulled_bytes, given, Transfers}
 use Rattle.daide_run.specs.Exchanged.{Exchanges}
 use Rattle.daide_buffered_io.proofs.BufferLemmas.{same_passes, passes_then}
 
@@ -80,14 +81,14 @@ bytes_of_events side (call ∷ trace) =
 -- ---- a history
 
 module _ {S : Type 0} (to_give got : S → Option (List ℕ)) where
-  all_passed : (history : List PortCall) (first now : Buffer S × Buffer S) →
+  all_passed : (history : List PortCall) (first now : PerSide (Buffer S)) →
       EvolvesBy (Transfers to_give got) first history now → (side : Side) →
-      Passes to_give got (stream_of first side) (given side history) (taken side history) (stream_of now side)
+      Passes to_give got (at first side) (given side history) (taken side history) (at now side)
   all_passed [] first now h side =
-      subst (λ (streams : Buffer S × Buffer S). Passes to_give got (stream_of first side) [] [] (stream_of streams side))
-      (sym h) (same_passes to_give got (stream_of first side))
+      subst (λ (streams : PerSide (Buffer S)). Passes to_give got (at first side) [] [] (at streams side))
+      (sym h) (same_passes to_give got (at first side))
   all_passed (call ∷ history) first now h side =
-      passes_then to_give got (stream_of first side) (stream_of h.0 side) (stream_of now side)
+      passes_then to_give got (at first side) (at h.0 side) (at now side)
       (pulled_bytes side call) (took side call) (given side history) (taken side history)
       (h.1.passes side) (all_passed history h.0 now h.2 side)
 
@@ -127,16 +128,16 @@ module _ {S : Type 0} (to_give got : S → Option (List ℕ)) where
       (sym (append-nil h.went) ∙ ap (λ (l : List ℕ). h.went ++ l) (sym written) ∙ sym h.write_buffer
       ∙ ap (λ (l : List ℕ). l ++ over) none ∙ all) h.takes
 
-  pub exchanged : (limits : Limits) (history : List PortCall) (first now : Buffer S × Buffer S) (g : SessionView) →
+  pub exchanged : (limits : Limits) (history : List PortCall) (first now : PerSide (Buffer S)) (g : SessionView) →
       EvolvesBy (Transfers to_give got) first history now → IsBoundedAndExact limits history g →
       Exchanges to_give got limits history first g now
   exchanged limits history first now g moves h =
       let fronts = λ (side : Side).
       front_of_answers _ _ _ _ _ _ (nothing_waited limits side) (h.sends.wires side) in
-      let passed : (side : Side) → Passes to_give got (stream_of first side) (bytes_from side (events_of history))
-      (taken side history) (stream_of now side) =
+      let passed : (side : Side) → Passes to_give got (at first side) (bytes_from side (events_of history))
+      (taken side history) (at now side) =
       λ side. subst
-      (λ (bytes : List ℕ). Passes to_give got (stream_of first side) bytes (taken side history) (stream_of now side))
+      (λ (bytes : List ℕ). Passes to_give got (at first side) bytes (taken side history) (at now side))
       (sym (bytes_of_events side history)) (all_passed history first now moves side) in
       record {
         effects = h.sends.effects;
@@ -144,9 +145,9 @@ module _ {S : Type 0} (to_give got : S → Option (List ℕ)) where
         passes = passed;
         front = fronts;
         all = h.all_sent;
-        heard = λ side. heard_of (stream_of first side) (stream_of now side) _ _ (passed side);
+        heard = λ side. heard_of (at first side) (at now side) _ _ (passed side);
         sent = λ side none.
-            sent_of (stream_of first side) (stream_of now side) _ _ _ (passed side) none (fronts side);
-        whole = λ closed side kept none written. whole_of (stream_of first side) (stream_of now side) _ _ _
+            sent_of (at first side) (at now side) _ _ _ (passed side) none (fronts side);
+        whole = λ closed side kept none written. whole_of (at first side) (at now side) _ _ _
             (passed side) none written (h.all_sent closed side kept);
       }

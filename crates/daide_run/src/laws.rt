@@ -3,6 +3,7 @@
 
 ghost use Rattle.daide_run.specs.Exchanged.{SessionsExchange, ServedSessionsExchange};
 ghost use Rattle.daide_run.specs.Accepted.{BotsAreCounted};
+ghost use Rattle.daide_sockets.specs.Timers.{streams_of};
 
 use daide_io::Ports;
 use daide_io::duplex::Duplex;
@@ -27,7 +28,7 @@ pub fn sessions_exchange<S: Duplex>()
 /// streams that record their bytes, around which a record may be.
 pub fn served_sessions_exchange<S: Duplex + Drop, W: Sink + Drop>()
     ensures { ServedSessionsExchange ⟦<Recording<SocketPorts<'static, S>, W> as Ports>⟧.transition
-        (λ ports. (ports.ports.bot.stream, ports.ports.server.stream)) S.to_give S.taken }
+        (λ ports. streams_of ports.ports) S.to_give S.taken }
 {}
 
 /// The sockets of a run count as many bots as their calls returned.

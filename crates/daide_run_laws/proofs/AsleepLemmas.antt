@@ -26,9 +26,9 @@ use Rattle.daide_sockets.specs.declared.socket.Socket.{Socket}
 use Rattle.daide_sockets.specs.Table.{arming_all}
 use Rattle.daide_sockets.specs.Sockets.{is_some_byte}
 use Rattle.daide_sockets.specs.Table.{Table, AreDeadlinesBounded, IsPollTime}
-use Rattle.daide_sockets.specs.Wakeups.{SessionSockets, Wakes, session_due}
+use Rattle.daide_sockets.specs.Wakeups.{SessionSockets, Wakes, session_due, socket_at}
 use Rattle.daide_sockets.proofs.InTimeLemmas.{IsBy, earlier_left, by_due, same_due, same_reading}
-use Rattle.daide_run_laws.specs.NoLostWakeups.{socket_at, Sleeps, NoWakeupIsLost}
+use Rattle.daide_run_laws.specs.NoLostWakeups.{Sleeps, NoWakeupIsLost}
 use Rattle.daide_run_laws.proofs.RestLemmas.{IsQuiet, none_reported, no_tries, no_writes, rests_quiet, places_kept, bounded_after}
 use Rattle.daide_driver.specs.Slab.{SlotView}
 use Rattle.daide_run_laws.proofs.TurnSettled.{PortsSettle, quiet_found, full_found}

@@ -114,7 +114,7 @@ module _ {P S : Type 0} (port_transition : P → PortCall → P → Type 0) (tim
           × IsStalling (timers place.ports).sockets.reading (own (timers place.ports) side)). held.1)
           (kept_from port_transition (λ (ports : P). IsHeld side (timers ports))
           (λ (c : PortCall) (a b : P) (h : port_transition a c b) (still : MakesNoProgress c) (made : IsOfTurn c)
-          (k : IsHeld side (timers a)). held_stays side c (timers a) (timers b) (settles a b c h) (keeps a b c h) still made k)
+          (k : IsHeld side (timers a)). held_stays c (timers a) (timers b) (settles a b c h) (keeps a b c h) still made side k)
           (Offered side (front_of place.session side) (Took 0))
           (λ (a b : P) (h : port_transition a (Offered side (front_of place.session side) (Took 0)) b)
           (still : MakesNoProgress (Offered side (front_of place.session side) (Took 0)))

@@ -10,6 +10,8 @@ use Rattle.std.proofs.lemmas.Bool.{lt-leb}
 use Rattle.std.proofs.lemmas.List.Elements.{All-head, All-tail}
 use Rattle.daide_frame.specs.declared.side.Side.{Side}
 use Rattle.daide_frame.specs.declared.side.Side.TheVariants.{Bot, Server}
+use Rattle.daide_frame.specs.Side.{other}
+use Rattle.daide_buffered_io.proofs.StreamLemmas.{of_both}
 use Rattle.daide_io.specs.declared.ports.Pull.{Pull}
 use Rattle.daide_io.specs.declared.ports.Pull.TheVariants.{Got, Idle, Ended}
 use Rattle.daide_io.specs.declared.ports.Put.{Put}
@@ -105,14 +107,10 @@ module _ {S : Type 0} where
 
   pub awake_found : (side : Side) (room : ℕ) (pull : Pull) (bytes : List ℕ) (old new : SessionTimers S) →
       SetsTimers (Pulled side room pull bytes) old new → (pull ≡ Idle) ⊎ (pull ≡ Got 0) → IsAwake side new
-  awake_found Bot room pull bytes old new h none =
-      awake_as old.idle_time new.idle_time old.sockets.reading new.sockets.reading new.sockets.bot.silent_from
-      new.sockets.bot.silent_from h.0.idle_time h.0.reading refl
-      (pulled_awake old.sockets.reading old.idle_time pull old.sockets.bot new.sockets.bot h.1 none)
-  awake_found Server room pull bytes old new h none =
-      awake_as old.idle_time new.idle_time old.sockets.reading new.sockets.reading new.sockets.server.silent_from
-      new.sockets.server.silent_from h.0.idle_time h.0.reading refl
-      (pulled_awake old.sockets.reading old.idle_time pull old.sockets.server new.sockets.server h.1 none)
+  awake_found side room pull bytes old new h none =
+      awake_as old.idle_time new.idle_time old.sockets.reading new.sockets.reading (own new side).silent_from
+      (own new side).silent_from h.0.idle_time h.0.reading refl
+      (pulled_awake old.sockets.reading old.idle_time pull (own old side) (own new side) h.1 none)
 
   pub awake_stays : (side : Side) (call : PortCall) (old new : SessionTimers S) → IsOfTurn call → SetsTimers call old new →
       IsAwake side old → IsAwake side new
@@ -191,13 +189,12 @@ module _ {S : Type 0} where
       by false e = inr (offered.none_taken refl some e, next)
 
   abbrev pub SettlesTimers : PortCall → SessionTimers S → SessionTimers S → Type 0
-  SettlesTimers call old new = AreSettled call (old.sockets.bot, old.sockets.server) (new.sockets.bot, new.sockets.server)
+  SettlesTimers call old new = AreSettled call old.sockets.sides new.sockets.sides
 
   pub held_found : (side : Side) (bytes : List ℕ) (old new : SessionTimers S) →
       SettlesTimers (Offered side bytes (Took 0)) old new → SetsTimers (Offered side bytes (Took 0)) old new → 0 < length bytes →
       IsHeld side new
-  held_found Bot bytes old new s h some = put_held old new Bot bytes h.0 s.1.0 h.1 some
-  held_found Server bytes old new s h some = put_held old new Server bytes h.0 s.1.0 h.1 some
+  held_found side bytes old new s h some = put_held old new side bytes h.0 s.1.0 h.1 some
 
   none_put : (side : Side) (bytes : List ℕ) (put : Put) (old new : SessionTimers S) → put ≡ Took 0 →
       SettlesTimers (Offered side bytes put) old new → SetsTimers (Offered side bytes put) old new → 0 < length bytes → IsHeld side new
@@ -205,27 +202,21 @@ module _ {S : Type 0} where
       held_found side bytes old new (subst (λ (p : Put). SettlesTimers (Offered side bytes p) old new) e s)
       (subst (λ (p : Put). SetsTimers (Offered side bytes p) old new) e h) some
 
-  pub held_stays : (side : Side) (call : PortCall) (old new : SessionTimers S) → SettlesTimers call old new →
-      SetsTimers call old new → MakesNoProgress call → IsOfTurn call → IsHeld side old → IsHeld side new
-  held_stays side TurnBegins old new s h still made held = absurd made
-  held_stays side (Clock event) old new s h still made held =
-      subst (λ (t : SessionTimers S). IsHeld side t) (sym h.1) held
-  held_stays Bot (Pulled Bot room pull bytes) old new s h still made held =
-      held_by old new Bot (Pulled Bot room pull bytes) made h s.1.0.tries_again
-      (λ shut. (s.1.0.writes ∙ shut, λ moment e. h.1.stalls_at ∙ e)) held
-  held_stays Bot (Pulled Server room pull bytes) old new s h still made held =
-      held_by old new Bot (Pulled Server room pull bytes) made h s.1.1.tries_again (λ shut. (s.1.1.full shut, h.2.full shut)) held
-  held_stays Server (Pulled Bot room pull bytes) old new s h still made held =
-      held_by old new Server (Pulled Bot room pull bytes) made h s.1.1.tries_again (λ shut. (s.1.1.full shut, h.2.full shut)) held
-  held_stays Server (Pulled Server room pull bytes) old new s h still made held =
-      held_by old new Server (Pulled Server room pull bytes) made h s.1.0.tries_again
-      (λ shut. (s.1.0.writes ∙ shut, λ moment e. h.1.stalls_at ∙ e)) held
-  held_stays Bot (Offered Bot bytes put) old new s h still made held = none_put Bot bytes put old new still s h made
-  held_stays Bot (Offered Server bytes put) old new s h still made held =
-      held_by old new Bot (Offered Server bytes put) made h s.1.1.tries_again (λ shut. (s.1.1.full shut, h.2.full shut)) held
-  held_stays Server (Offered Bot bytes put) old new s h still made held =
-      held_by old new Server (Offered Bot bytes put) made h s.1.1.tries_again (λ shut. (s.1.1.full shut, h.2.full shut)) held
-  held_stays Server (Offered Server bytes put) old new s h still made held = none_put Server bytes put old new still s h made
+  pub held_stays : (call : PortCall) (old new : SessionTimers S) → SettlesTimers call old new → SetsTimers call old new →
+      MakesNoProgress call → IsOfTurn call → (side : Side) → IsHeld side old → IsHeld side new
+  held_stays TurnBegins old new s h still made = absurd made
+  held_stays (Clock event) old new s h still made =
+      λ side held. subst (λ (t : SessionTimers S). IsHeld side t) (sym h.1) held
+  held_stays (Pulled side room pull bytes) old new s h still made =
+      of_both (λ (one : Side). IsHeld one old → IsHeld one new) side
+      (held_by old new side (Pulled side room pull bytes) made h s.1.0.tries_again
+      (λ shut. (s.1.0.writes ∙ shut, λ moment e. h.1.stalls_at ∙ e)))
+      (held_by old new (other side) (Pulled side room pull bytes) made h s.1.1.tries_again
+      (λ shut. (s.1.1.full shut, h.2.full shut)))
+  held_stays (Offered side bytes put) old new s h still made =
+      of_both (λ (one : Side). IsHeld one old → IsHeld one new) side (λ held. none_put side bytes put old new still s h made)
+      (held_by old new (other side) (Offered side bytes put) made h s.1.1.tries_again
+      (λ shut. (s.1.1.full shut, h.2.full shut)))
 
   -- ---- the nearest deadline
 
@@ -277,12 +268,12 @@ module _ {S : Type 0} where
       IsBy (next_deadline session.sockets.reading (own session side).stalls_at (own session side).silent_from) most →
       IsBy (session_due session.sockets) most
   side_due Bot session most h =
-      let bot = next_deadline session.sockets.reading session.sockets.bot.stalls_at session.sockets.bot.silent_from in
-      let server = next_deadline session.sockets.reading session.sockets.server.stalls_at session.sockets.server.silent_from in
+      let bot = next_deadline session.sockets.reading session.sockets.sides.bot.stalls_at session.sockets.sides.bot.silent_from in
+      let server = next_deadline session.sockets.reading session.sockets.sides.server.stalls_at session.sockets.sides.server.silent_from in
       earlier_left (earlier bot server) session.sockets.im_due most (earlier_left bot server most h)
   side_due Server session most h =
-      let bot = next_deadline session.sockets.reading session.sockets.bot.stalls_at session.sockets.bot.silent_from in
-      let server = next_deadline session.sockets.reading session.sockets.server.stalls_at session.sockets.server.silent_from in
+      let bot = next_deadline session.sockets.reading session.sockets.sides.bot.stalls_at session.sockets.sides.bot.silent_from in
+      let server = next_deadline session.sockets.reading session.sockets.sides.server.stalls_at session.sockets.sides.server.silent_from in
       earlier_left (earlier bot server) session.sockets.im_due most (earlier_right bot server most h)
 
   -- with an idle timeout that is not over, or a stall timeout that runs, there is a deadline

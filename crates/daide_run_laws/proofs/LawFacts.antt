@@ -51,11 +51,11 @@ module _ {P S N C : Type 0} (port_transition : P → PortCall → P → Type 0) 
   one = asleep.asleep 3 held at
 
   -- the bot's socket of a session with room is not readable
-  unreadable : 0 < room_of held.session Bot → (view held.ports).bot.readiness.may_read ≡ false
+  unreadable : 0 < room_of held.session Bot → (view held.ports).sides.bot.readiness.may_read ≡ false
   unreadable room = (one.read Bot room).0
 
   -- while a frame is queued for the server, its socket is not writable
-  unwritable : no_frame (queued held.session Server) ≡ false → (view held.ports).server.readiness.may_write ≡ false
+  unwritable : no_frame (queued held.session Server) ≡ false → (view held.ports).sides.server.readiness.may_write ≡ false
   unwritable some = one.written Server some
 
   -- beside a deadline seven nanoseconds after the reading, the poll lasts at most as long
@@ -90,7 +90,7 @@ module _ {P S : Type 0} (port_transition : P → PortCall → P → Type 0) (tim
     (from : CameFrom port_transition timers settings trace mid late place) where
   -- while a bot sends nothing, its silence is over at the same moment as before
   silence_stays : IsQuietFor port_transition timers Bot late mid place.ports from.since →
-      (timers place.ports).sockets.bot.silent_from ≡ (timers mid).sockets.bot.silent_from
+      (timers place.ports).sockets.sides.bot.silent_from ≡ (timers mid).sockets.sides.bot.silent_from
   silence_stays quiet = (law settings trace mid late place Bot from quiet).silence
 
 module _ {P S N C : Type 0} (port_transition : P → PortCall → P → Type 0) (timers : P → SessionTimers S)

@@ -132,8 +132,7 @@ module _ {S : Type 0} where
 
   begins_stall : (start : Option Instant) (times : Option Duration × Option Duration) (session : SessionTimers S) →
       BeginsAt start times session → (side : Side) → MayStall (own session side)
-  begins_stall start times session h Bot = may_stall_from times.1 session.sockets.bot h.stall_time.0 h.stalls_at.0
-  begins_stall start times session h Server = may_stall_from times.1 session.sockets.server h.stall_time.1 h.stalls_at.1
+  begins_stall start times session h side = may_stall_from times.1 (own session side) (h.stall_time side) (h.stalls_at side)
 
   abbrev stall_left : Socket S → ℕ
   stall_left socket = one_if (not socket.stream.has_failed || is_some socket.stalls_at)
@@ -253,16 +252,16 @@ module _ {S : Type 0} where
       timeouts_left new + one_if (is_past new.sockets.reading (session_due old.sockets)) ≤ timeouts_left old
   begun_left idle stall old new set later h =
       let due = λ (socket : Socket S). next_deadline old.sockets.reading socket.stalls_at socket.silent_from in
-      let bot = peer_begun later.before later.now old.sockets.reading new.sockets.reading old.sockets.bot new.sockets.bot
-      later.was later.is.read later.order (set Bot) h.3 in
-      let server = peer_begun later.before later.now old.sockets.reading new.sockets.reading old.sockets.server new.sockets.server
-      later.was later.is.read later.order (set Server) h.4 in
+      let bot = peer_begun later.before later.now old.sockets.reading new.sockets.reading old.sockets.sides.bot new.sockets.sides.bot
+      later.was later.is.read later.order (set Bot) (h.3 Bot) in
+      let server = peer_begun later.before later.now old.sockets.reading new.sockets.reading old.sockets.sides.server new.sockets.sides.server
+      later.was later.is.read later.order (set Server) (h.3 Server) in
       let im : one_if (is_some new.sockets.im_due) + one_if (is_past new.sockets.reading old.sockets.im_due)
       ≤ one_if (is_some old.sockets.im_due) =
       subst (λ (m : Option Instant). one_if (is_some m) + one_if (is_past new.sockets.reading old.sockets.im_due)
       ≤ one_if (is_some old.sockets.im_due)) (sym h.2) (once_left new.sockets.reading old.sockets.im_due) in
-      let all = past_counted new.sockets.reading (earlier (due old.sockets.bot) (due old.sockets.server)) old.sockets.im_due in
-      let peers = past_counted new.sockets.reading (due old.sockets.bot) (due old.sockets.server) in
+      let all = past_counted new.sockets.reading (earlier (due old.sockets.sides.bot) (due old.sockets.sides.server)) old.sockets.im_due in
+      let peers = past_counted new.sockets.reading (due old.sockets.sides.bot) (due old.sockets.sides.server) in
       omega (arith, bot, server, im, all, peers)
 
   clock_left : (event : ClockEvent) (old new : SessionTimers S) → SetsTimers (Clock event) old new →
@@ -272,31 +271,31 @@ module _ {S : Type 0} where
   pulled_left : (side : Side) (room : ℕ) (pull : Pull) (bytes : List ℕ) (old new : SessionTimers S) →
       SetsTimers (Pulled side room pull bytes) old new → timeouts_left new ≤ timeouts_left old + one_if (is_got pull)
   pulled_left Bot room pull bytes old new h =
-      let bot = peer_pulled old.sockets.reading new.sockets.reading old.idle_time pull old.sockets.bot new.sockets.bot h.0.reading h.1 in
-      let server = peer_kept old.sockets.reading new.sockets.reading old.sockets.server new.sockets.server h.0.reading h.2.kept in
+      let bot = peer_pulled old.sockets.reading new.sockets.reading old.idle_time pull old.sockets.sides.bot new.sockets.sides.bot h.0.reading h.1 in
+      let server = peer_kept old.sockets.reading new.sockets.reading old.sockets.sides.server new.sockets.sides.server h.0.reading h.2.kept in
       let im = im_kept old new h.0.im_due in omega (arith, bot, server, im)
   pulled_left Server room pull bytes old new h =
-      let server = peer_pulled old.sockets.reading new.sockets.reading old.idle_time pull old.sockets.server new.sockets.server h.0.reading h.1 in
-      let bot = peer_kept old.sockets.reading new.sockets.reading old.sockets.bot new.sockets.bot h.0.reading h.2.kept in
+      let server = peer_pulled old.sockets.reading new.sockets.reading old.idle_time pull old.sockets.sides.server new.sockets.sides.server h.0.reading h.1 in
+      let bot = peer_kept old.sockets.reading new.sockets.reading old.sockets.sides.bot new.sockets.sides.bot h.0.reading h.2.kept in
       let im = im_kept old new h.0.im_due in omega (arith, bot, server, im)
 
   offered_left : (side : Side) (bytes : List ℕ) (put : Put) (old new : SessionTimers S) →
       SetsTimers (Offered side bytes put) old new → timeouts_left new ≤ timeouts_left old
   offered_left Bot bytes put old new h =
-      let bot = peer_kept old.sockets.reading new.sockets.reading old.sockets.bot new.sockets.bot h.0.reading h.1.kept in
-      let server = peer_kept old.sockets.reading new.sockets.reading old.sockets.server new.sockets.server h.0.reading h.2.kept in
+      let bot = peer_kept old.sockets.reading new.sockets.reading old.sockets.sides.bot new.sockets.sides.bot h.0.reading h.1.kept in
+      let server = peer_kept old.sockets.reading new.sockets.reading old.sockets.sides.server new.sockets.sides.server h.0.reading h.2.kept in
       let im = im_kept old new h.0.im_due in omega (arith, bot, server, im)
   offered_left Server bytes put old new h =
-      let server = peer_kept old.sockets.reading new.sockets.reading old.sockets.server new.sockets.server h.0.reading h.1.kept in
-      let bot = peer_kept old.sockets.reading new.sockets.reading old.sockets.bot new.sockets.bot h.0.reading h.2.kept in
+      let server = peer_kept old.sockets.reading new.sockets.reading old.sockets.sides.server new.sockets.sides.server h.0.reading h.1.kept in
+      let bot = peer_kept old.sockets.reading new.sockets.reading old.sockets.sides.bot new.sockets.sides.bot h.0.reading h.2.kept in
       let im = im_kept old new h.0.im_due in omega (arith, bot, server, im)
 
   at_most_five : (session : SessionTimers S) → timeouts_left session ≤ 5
   at_most_five session =
-      let a = at_most_one (is_some (due_after session.sockets.reading session.sockets.bot.silent_from)) in
-      let b = at_most_one (is_some (due_after session.sockets.reading session.sockets.server.silent_from)) in
-      let c = at_most_one (not session.sockets.bot.stream.has_failed || is_some session.sockets.bot.stalls_at) in
-      let d = at_most_one (not session.sockets.server.stream.has_failed || is_some session.sockets.server.stalls_at) in
+      let a = at_most_one (is_some (due_after session.sockets.reading session.sockets.sides.bot.silent_from)) in
+      let b = at_most_one (is_some (due_after session.sockets.reading session.sockets.sides.server.silent_from)) in
+      let c = at_most_one (not session.sockets.sides.bot.stream.has_failed || is_some session.sockets.sides.bot.stalls_at) in
+      let d = at_most_one (not session.sockets.sides.server.stream.has_failed || is_some session.sockets.sides.server.stalls_at) in
       let e = at_most_one (is_some session.sockets.im_due) in
       omega (arith, a, b, c, d, e)
 

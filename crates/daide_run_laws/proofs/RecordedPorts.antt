@@ -1,5 +1,6 @@
 -- Ports with a record settle, and keep time, as the ports inside do.
 use Rattle.std.proofs.Common.{List, Option, arith}
+use Rattle.daide_frame.specs.PerSide.{PerSide}
 use Rattle.daide_io.specs.Streams.{StreamCall}
 use Rattle.daide_io.specs.Ports.{PortCall, TurnBegins, Clock, Pulled, Offered}
 use Rattle.daide_log.specs.Recording.{asked_within}
@@ -8,7 +9,7 @@ use Rattle.daide_sockets.specs.Timers.{SessionTimers, SetsTimers}
 use Rattle.daide_sockets.specs.Wakeups.{Settles}
 
 -- a pull with room has room also for a piece of a record's line
-pub settles_within : {S : Type 0} (streams : S → Option (List StreamCall)) (call : PortCall) (old new : Socket S × Socket S) →
+pub settles_within : {S : Type 0} (streams : S → Option (List StreamCall)) (call : PortCall) (old new : PerSide (Socket S)) →
     Settles streams (asked_within call) old new → Settles streams call old new
 settles_within streams TurnBegins old new h = h
 settles_within streams (Clock event) old new h = h

@@ -10,11 +10,11 @@ use Rattle.daide_io.specs.Streams.{StreamCall}
 use Rattle.daide_io.specs.System.{SystemCall, Polls, Shows, Accepts, Connects, BeginsTurn, Rests, Retires, Notifies}
 use Rattle.daide_io.specs.System.{TransitsBy, is_about, last_about}
 use Rattle.daide_buffered_io.specs.declared.readiness.Readiness.{Readiness}
+use Rattle.daide_sockets.specs.declared.socket.Socket.{Socket}
 use Rattle.daide_sockets.specs.Sockets.{has_socket_work, is_some_byte}
 use Rattle.daide_sockets.specs.Table.{Table, row_at, row_or_free, no_report, report_at, has_report, is_reported_at, key_of, deadline_at}
 use Rattle.daide_sockets.specs.Table.{AreDeadlinesBounded, deadline_in, resting, without_report, without_reports}
-use Rattle.daide_sockets.specs.Wakeups.{Wakes, RestsFor, KeepsPlace, SessionSockets, may_go_on, may_session_go_on, session_due}
-use Rattle.daide_run_laws.specs.NoLostWakeups.{socket_at}
+use Rattle.daide_sockets.specs.Wakeups.{Wakes, RestsFor, KeepsPlace, SessionSockets, may_go_on, may_session_go_on, session_due, socket_at}
 
 left_false : (a b : Bool) → (a || b) ≡ false → a ≡ false
 left_false false b e = refl
@@ -29,20 +29,26 @@ pub record IsQuiet {S : Type 0} (table : Table) (place : ℕ) (session : Session
   pub none : may_session_go_on table place session ≡ false
   pub due : deadline_at table place ≡ session_due session
 
+-- something may be done at once for a socket with this report in its row
+abbrev may_go_by : {S : Type 0} → Readiness → Socket S → Bool
+may_go_by report socket = has_report report || has_socket_work socket.stream socket.readiness socket.tries_again
+
 -- what a place keeps, its session keeps
 kept : {S : Type 0} (old : Table) (place : ℕ) (new : Table) (session : SessionSockets S) → KeepsPlace old place new →
     IsQuiet old place session → IsQuiet new place session
 kept old place new session keeps quiet = record {
-  none = ap (λ (r : Readiness). (has_report r || has_socket_work session.bot.stream session.bot.readiness session.bot.tries_again) || may_go_on new (key_of place Server) session.server) (keeps.reports Bot)
-      ∙ ap (λ (r : Readiness). may_go_on old (key_of place Bot) session.bot || (has_report r || has_socket_work session.server.stream session.server.readiness session.server.tries_again)) (keeps.reports Server)
+  none = ap (λ (r : Readiness). may_go_by r session.sides.bot || may_go_on new (key_of place Server) session.sides.server)
+      (keeps.reports Bot)
+      ∙ ap (λ (r : Readiness). may_go_on old (key_of place Bot) session.sides.bot || may_go_by r session.sides.server)
+      (keeps.reports Server)
       ∙ quiet.none;
   due = keeps.deadline ∙ quiet.due;
 }
 
 module _ {S : Type 0} (table : Table) (place : ℕ) (session : SessionSockets S) (quiet : IsQuiet table place session) where
   still : (side : Side) → may_go_on table (key_of place side) (socket_at session side) ≡ false
-  still Bot = left_false (may_go_on table (key_of place Bot) session.bot) (may_go_on table (key_of place Server) session.server) quiet.none
-  still Server = right_false (may_go_on table (key_of place Bot) session.bot) (may_go_on table (key_of place Server) session.server) quiet.none
+  still Bot = left_false (may_go_on table (key_of place Bot) session.sides.bot) (may_go_on table (key_of place Server) session.sides.server) quiet.none
+  still Server = right_false (may_go_on table (key_of place Bot) session.sides.bot) (may_go_on table (key_of place Server) session.sides.server) quiet.none
 
   abbrev work : Side → Bool
   work side = has_socket_work (socket_at session side).stream (socket_at session side).readiness (socket_at session side).tries_again

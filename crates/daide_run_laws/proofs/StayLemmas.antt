@@ -6,7 +6,9 @@ use Rattle.std.proofs.lemmas.Bool.{le-ltb}
 use Rattle.std.specs.declared.time.Duration.{Duration}
 use Rattle.std.specs.declared.time.Instant.{Instant}
 use Rattle.daide_frame.specs.declared.side.Side.{Side}
-use Rattle.daide_frame.specs.declared.side.Side.TheVariants.{Bot, Server}
+use Rattle.daide_frame.specs.Side.{other}
+use Rattle.daide_protocol.proofs.WireLemmas.{same_self}
+use Rattle.daide_buffered_io.proofs.StreamLemmas.{of_both}
 use Rattle.daide_io.specs.declared.ports.Pull.{Pull}
 use Rattle.daide_io.specs.declared.ports.Put.{Put}
 use Rattle.daide_io.specs.declared.ports.Put.TheVariants.{Took}
@@ -69,30 +71,23 @@ module _ {S : Type 0} where
         ((subst (λ (p : Put). StallsAfterPut reading (length bytes) p old new) none h.stall).0 (inl some)) moment is);
   }
 
-  call_stays : (side : Side) (call : PortCall) (old new : SessionTimers S) → SetsTimers call old new → MovesNoByte side call →
-      held_len (own new side) ≡ held_len (own old side) → KeepsTimeouts (own old side) (own new side)
-  call_stays Bot TurnBegins old new h quiet same =
-      begun_stays new.sockets.reading old.sockets.bot new.sockets.bot h.3 same
-  call_stays Server TurnBegins old new h quiet same =
-      begun_stays new.sockets.reading old.sockets.server new.sockets.server h.4 same
-  call_stays side (Clock event) old new h quiet same =
+  call_stays : (call : PortCall) (old new : SessionTimers S) → SetsTimers call old new → (side : Side) →
+      MovesNoByte side call → held_len (own new side) ≡ held_len (own old side) → KeepsTimeouts (own old side) (own new side)
+  call_stays TurnBegins old new h = λ side quiet same.
+      begun_stays new.sockets.reading (own old side) (own new side) (h.3 side) same
+  call_stays (Clock event) old new h = λ side quiet same.
       same_timeouts (own old side) (own new side) (ap (λ (s : SessionTimers S). own s side) h.1)
-  call_stays Bot (Pulled Bot room pull bytes) old new h quiet same =
-      pulled_stays old.sockets.reading old.idle_time pull old.sockets.bot new.sockets.bot h.1 (quiet refl)
-  call_stays Bot (Pulled Server room pull bytes) old new h quiet same =
-      flushed_stays old.sockets.reading old.sockets.bot new.sockets.bot h.2 same
-  call_stays Server (Pulled Bot room pull bytes) old new h quiet same =
-      flushed_stays old.sockets.reading old.sockets.server new.sockets.server h.2 same
-  call_stays Server (Pulled Server room pull bytes) old new h quiet same =
-      pulled_stays old.sockets.reading old.idle_time pull old.sockets.server new.sockets.server h.1 (quiet refl)
-  call_stays Bot (Offered Bot bytes put) old new h quiet same =
-      let none = quiet refl in put_stays old.sockets.reading bytes put old.sockets.bot new.sockets.bot h.1 none.0 none.1 same
-  call_stays Bot (Offered Server bytes put) old new h quiet same =
-      flushed_stays old.sockets.reading old.sockets.bot new.sockets.bot h.2 same
-  call_stays Server (Offered Bot bytes put) old new h quiet same =
-      flushed_stays old.sockets.reading old.sockets.server new.sockets.server h.2 same
-  call_stays Server (Offered Server bytes put) old new h quiet same =
-      let none = quiet refl in put_stays old.sockets.reading bytes put old.sockets.server new.sockets.server h.1 none.0 none.1 same
+  call_stays (Pulled side room pull bytes) old new h =
+      of_both (λ (one : Side). MovesNoByte one (Pulled side room pull bytes) → held_len (own new one) ≡ held_len (own old one) →
+      KeepsTimeouts (own old one) (own new one)) side
+      (λ quiet same. pulled_stays old.sockets.reading old.idle_time pull (own old side) (own new side) h.1 (quiet (same_self side)))
+      (λ quiet same. flushed_stays old.sockets.reading (own old (other side)) (own new (other side)) h.2 same)
+  call_stays (Offered side bytes put) old new h =
+      of_both (λ (one : Side). MovesNoByte one (Offered side bytes put) → held_len (own new one) ≡ held_len (own old one) →
+      KeepsTimeouts (own old one) (own new one)) side
+      (λ quiet same. let none = quiet (same_self side) in
+      put_stays old.sockets.reading bytes put (own old side) (own new side) h.1 none.0 none.1 same)
+      (λ quiet same. flushed_stays old.sockets.reading (own old (other side)) (own new (other side)) h.2 same)
 
   -- one call after another: a wire that failed stays failed
   stays_then : (a b c : Socket S) → KeepsTimeouts a b → KeepsTimeouts b c →
@@ -110,7 +105,7 @@ module _ {P S : Type 0} (port_transition : P → PortCall → P → Type 0) (tim
 
   one_stays : (call : PortCall) (a b : P) → port_transition a call b → MovesNoByte side call →
       held_len (at b) ≡ held_len (at a) → KeepsTimeouts (at a) (at b)
-  one_stays call a b h quiet same = call_stays side call (timers a) (timers b) (keeps a b call h) quiet same
+  one_stays call a b h quiet same = call_stays call (timers a) (timers b) (keeps a b call h) side quiet same
 
   one_fails : (call : PortCall) (a b : P) → port_transition a call b →
       (at a).stream.has_failed ≡ true → (at b).stream.has_failed ≡ true

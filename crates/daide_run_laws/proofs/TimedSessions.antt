@@ -6,13 +6,14 @@ use Rattle.std.specs.Time.{instant_nanos, FitsClock}
 use Rattle.std.specs.declared.time.Duration.{Duration}
 use Rattle.std.specs.declared.time.Instant.{Instant}
 use Rattle.daide_frame.specs.declared.side.Side.{Side}
-use Rattle.daide_frame.specs.declared.side.Side.TheVariants.{Bot, Server}
+use Rattle.daide_frame.specs.Side.{other}
+use Rattle.daide_buffered_io.proofs.StreamLemmas.{of_both}
 use Rattle.daide_io.specs.declared.ports.Pull.{Pull}
 use Rattle.daide_io.specs.Ports.{PortCall, TurnBegins, Clock, Pulled, Offered, EvolvesBy}
 use Rattle.daide_sockets.specs.declared.socket.Socket.{Socket}
-use Rattle.daide_sockets.specs.Timers.{SessionTimers, BeginsAt, KeepsTimers, PullsInTime, SetsTimers, is_got}
+use Rattle.daide_sockets.specs.Timers.{SessionTimers, BeginsAt, FlushesInTime, KeepsTimers, PullsInTime, SetsTimers, is_got}
 use Rattle.daide_sockets.specs.Clock.{IsAfter, IsStallEnd}
-use Rattle.daide_run_laws.specs.NoLostWakeups.{socket_at}
+use Rattle.daide_sockets.specs.Wakeups.{socket_at}
 use Rattle.daide_run_laws.specs.FreedPlaces.{HasTimeouts, IsReading, IsLater, ClockGoesOn}
 
 -- the calls of ports do to the timers of their session what `SetsTimers` says
@@ -68,36 +69,29 @@ module _ {S : Type 0} where
       KeepsStall other old new
   at_stall one other old new e h = subst (λ (r : Option Instant). KeepsStall r old new) (sym e) h
 
+  -- the side that a call does not name
+  flushed_stall : (side : Side) (old new : SessionTimers S) → new.sockets.reading ≡ old.sockets.reading →
+      FlushesInTime old.sockets.reading (own old (other side)) (own new (other side)) →
+      KeepsStall new.sockets.reading (own old (other side)) (own new (other side))
+  flushed_stall side old new same h =
+      at_stall old.sockets.reading new.sockets.reading (own old (other side)) (own new (other side)) same
+      (kept_stall old.sockets.reading (own old (other side)) (own new (other side)) h.kept)
+
   pub step_stall : (call : PortCall) (old new : SessionTimers S) → SetsTimers call old new → (side : Side) →
       KeepsStall new.sockets.reading (own old side) (own new side)
-  step_stall TurnBegins old new h Bot = kept_stall new.sockets.reading old.sockets.bot new.sockets.bot h.3.kept
-  step_stall TurnBegins old new h Server = kept_stall new.sockets.reading old.sockets.server new.sockets.server h.4.kept
-  step_stall (Clock event) old new h side =
+  step_stall TurnBegins old new h = λ side. kept_stall new.sockets.reading (own old side) (own new side) (h.3 side).kept
+  step_stall (Clock event) old new h = λ side.
       same_stall new.sockets.reading (own old side) (own new side) (ap (λ (s : SessionTimers S). own s side) h.1)
-  step_stall (Pulled Bot room pull bytes) old new h Bot =
-      at_stall old.sockets.reading new.sockets.reading old.sockets.bot new.sockets.bot h.0.reading
-      (pulled_stall old.sockets.reading old.idle_time pull old.sockets.bot new.sockets.bot h.1)
-  step_stall (Pulled Bot room pull bytes) old new h Server =
-      at_stall old.sockets.reading new.sockets.reading old.sockets.server new.sockets.server h.0.reading
-      (kept_stall old.sockets.reading old.sockets.server new.sockets.server h.2.kept)
-  step_stall (Pulled Server room pull bytes) old new h Bot =
-      at_stall old.sockets.reading new.sockets.reading old.sockets.bot new.sockets.bot h.0.reading
-      (kept_stall old.sockets.reading old.sockets.bot new.sockets.bot h.2.kept)
-  step_stall (Pulled Server room pull bytes) old new h Server =
-      at_stall old.sockets.reading new.sockets.reading old.sockets.server new.sockets.server h.0.reading
-      (pulled_stall old.sockets.reading old.idle_time pull old.sockets.server new.sockets.server h.1)
-  step_stall (Offered Bot bytes put) old new h Bot =
-      at_stall old.sockets.reading new.sockets.reading old.sockets.bot new.sockets.bot h.0.reading
-      (kept_stall old.sockets.reading old.sockets.bot new.sockets.bot h.1.kept)
-  step_stall (Offered Bot bytes put) old new h Server =
-      at_stall old.sockets.reading new.sockets.reading old.sockets.server new.sockets.server h.0.reading
-      (kept_stall old.sockets.reading old.sockets.server new.sockets.server h.2.kept)
-  step_stall (Offered Server bytes put) old new h Bot =
-      at_stall old.sockets.reading new.sockets.reading old.sockets.bot new.sockets.bot h.0.reading
-      (kept_stall old.sockets.reading old.sockets.bot new.sockets.bot h.2.kept)
-  step_stall (Offered Server bytes put) old new h Server =
-      at_stall old.sockets.reading new.sockets.reading old.sockets.server new.sockets.server h.0.reading
-      (kept_stall old.sockets.reading old.sockets.server new.sockets.server h.1.kept)
+  step_stall (Pulled side room pull bytes) old new h =
+      of_both (λ (one : Side). KeepsStall new.sockets.reading (own old one) (own new one)) side
+      (at_stall old.sockets.reading new.sockets.reading (own old side) (own new side) h.0.reading
+      (pulled_stall old.sockets.reading old.idle_time pull (own old side) (own new side) h.1))
+      (flushed_stall side old new h.0.reading h.2)
+  step_stall (Offered side bytes put) old new h =
+      of_both (λ (one : Side). KeepsStall new.sockets.reading (own old one) (own new one)) side
+      (at_stall old.sockets.reading new.sockets.reading (own old side) (own new side) h.0.reading
+      (kept_stall old.sockets.reading (own old side) (own new side) h.1.kept))
+      (flushed_stall side old new h.0.reading h.2)
 
   at_silence : (one other : Option Instant) (time : Option Duration) (old new : Socket S) → other ≡ one →
       KeepsSilence one time old new → KeepsSilence other time old new
@@ -105,21 +99,16 @@ module _ {S : Type 0} where
 
   pub step_silence : (call : PortCall) (old new : SessionTimers S) → SetsTimers call old new → (side : Side) →
       KeepsSilence new.sockets.reading old.idle_time (own old side) (own new side)
-  step_silence TurnBegins old new h Bot = inl h.3.kept.silent_from
-  step_silence TurnBegins old new h Server = inl h.4.kept.silent_from
-  step_silence (Clock event) old new h side = inl (ap (λ (s : SessionTimers S). (own s side).silent_from) h.1)
-  step_silence (Pulled Bot room pull bytes) old new h Bot =
-      at_silence old.sockets.reading new.sockets.reading old.idle_time old.sockets.bot new.sockets.bot h.0.reading
-      (pulled_silence old.sockets.reading old.idle_time pull old.sockets.bot new.sockets.bot h.1)
-  step_silence (Pulled Bot room pull bytes) old new h Server = inl h.2.kept.silent_from
-  step_silence (Pulled Server room pull bytes) old new h Bot = inl h.2.kept.silent_from
-  step_silence (Pulled Server room pull bytes) old new h Server =
-      at_silence old.sockets.reading new.sockets.reading old.idle_time old.sockets.server new.sockets.server h.0.reading
-      (pulled_silence old.sockets.reading old.idle_time pull old.sockets.server new.sockets.server h.1)
-  step_silence (Offered Bot bytes put) old new h Bot = inl h.1.kept.silent_from
-  step_silence (Offered Bot bytes put) old new h Server = inl h.2.kept.silent_from
-  step_silence (Offered Server bytes put) old new h Bot = inl h.2.kept.silent_from
-  step_silence (Offered Server bytes put) old new h Server = inl h.1.kept.silent_from
+  step_silence TurnBegins old new h = λ side. inl (h.3 side).kept.silent_from
+  step_silence (Clock event) old new h = λ side. inl (ap (λ (s : SessionTimers S). (own s side).silent_from) h.1)
+  step_silence (Pulled side room pull bytes) old new h =
+      of_both (λ (one : Side). KeepsSilence new.sockets.reading old.idle_time (own old one) (own new one)) side
+      (at_silence old.sockets.reading new.sockets.reading old.idle_time (own old side) (own new side) h.0.reading
+      (pulled_silence old.sockets.reading old.idle_time pull (own old side) (own new side) h.1))
+      (inl h.2.kept.silent_from)
+  step_silence (Offered side bytes put) old new h =
+      of_both (λ (one : Side). KeepsSilence new.sockets.reading old.idle_time (own old one) (own new one)) side
+      (inl h.1.kept.silent_from) (inl h.2.kept.silent_from)
 
   pub step_idle_time : (call : PortCall) (old new : SessionTimers S) → SetsTimers call old new → new.idle_time ≡ old.idle_time
   step_idle_time TurnBegins old new h = h.0
@@ -173,26 +162,11 @@ pub record BeginsTimed {S : Type 0} (idle stall : Duration) (session : SessionTi
   pub begins : BeginsAt (Some now) (Some idle, Some stall) session
 
 module _ {S : Type 0} (idle stall : Duration) where
-  stall_set : (session : SessionTimers S) → BeginsTimed idle stall session → (side : Side) →
-      (own session side).stall_time ≡ Some stall
-  stall_set session h Bot = h.begins.stall_time.0
-  stall_set session h Server = h.begins.stall_time.1
-
-  silence_set : (session : SessionTimers S) → (h : BeginsTimed idle stall session) → (side : Side) →
-      IsAfter (Some h.now) (as_nanos idle) (own session side).silent_from
-  silence_set session h Bot = h.begins.silent_from.0
-  silence_set session h Server = h.begins.silent_from.1
-
-  no_stall : (session : SessionTimers S) → BeginsTimed idle stall session → (side : Side) →
-      (own session side).stalls_at ≡ None
-  no_stall session h Bot = h.begins.stalls_at.0
-  no_stall session h Server = h.begins.stalls_at.1
-
   begins_set : (session : SessionTimers S) → BeginsTimed idle stall session → HasTimeouts idle stall session
   begins_set session h = record {
     idle_time = h.begins.idle_time;
     idle_lasts = h.idle_lasts;
-    stall_time = stall_set session h;
+    stall_time = h.begins.stall_time;
   }
 
   pub begins_timed : (session : SessionTimers S) → BeginsTimed idle stall session → IsTimedNow idle stall session
@@ -201,9 +175,9 @@ module _ {S : Type 0} (idle stall : Duration) where
     now = h.now;
     reading = h.reading;
     silence = λ side. let own_end = after_there h.now (as_nanos idle) (own session side).silent_from h.reading.idle_fits
-        (silence_set session h side) in
+        (h.begins.silent_from side) in
         let is = own_end.2 in (own_end.0, own_end.1, omega (arith, is));
-    stalls = λ side moment e. let none = no_stall session h side in absurd (cc);
+    stalls = λ side moment e. let none = h.begins.stalls_at side in absurd (cc);
   }
 
   -- after a call, by the reading of its turn

@@ -4,17 +4,17 @@ use Rattle.std.proofs.Common.{refl, sym, ◌∙◌, subst, arith, ◌⊎◌, inl
 use Rattle.std.specs.Prelude.{All}
 use Rattle.std.proofs.lemmas.List.Elements.{All-head, All-tail}
 use Rattle.daide_frame.specs.declared.side.Side.{Side}
-use Rattle.daide_frame.specs.declared.side.Side.TheVariants.{Bot, Server}
+use Rattle.daide_frame.specs.PerSide.{PerSide, at}
+use Rattle.daide_frame.specs.Side.{other}
 use Rattle.daide_io.specs.declared.ports.Pull.{Pull}
 use Rattle.daide_io.specs.declared.ports.Put.{Put}
 use Rattle.daide_io.specs.declared.ports.Put.TheVariants.{Took}
 use Rattle.daide_io.specs.Streams.{StreamCall}
 use Rattle.daide_io.specs.Ports.{PortCall, TurnBegins, Clock, Pulled, Offered, EvolvesBy}
 use Rattle.daide_event_loop.specs.Waiting.{MakesNoProgress, IsOfTurn}
-use Rattle.daide_buffered_io.specs.Streams.{stream_of}
+use Rattle.daide_buffered_io.proofs.StreamLemmas.{of_both}
 use Rattle.daide_sockets.specs.declared.socket.Socket.{Socket}
-use Rattle.daide_sockets.specs.Wakeups.{StaysUnread, IsNothing, IsPulled, IsOffered, Settles, SessionSockets}
-use Rattle.daide_run_laws.specs.NoLostWakeups.{socket_at}
+use Rattle.daide_sockets.specs.Wakeups.{StaysUnread, IsNothing, IsPulled, IsOffered, Settles, SessionSockets, socket_at}
 
 -- ---- one socket
 
@@ -60,43 +60,40 @@ module _ {S : Type 0} {streams : S → Option (List StreamCall)} where
 
 module _ {S : Type 0} where
   -- what `Settles` says, by the calls of some streams
-  abbrev pub AreSettled : PortCall → Socket S × Socket S → Socket S × Socket S → Type 0
+  abbrev pub AreSettled : PortCall → PerSide (Socket S) → PerSide (Socket S) → Type 0
   AreSettled call old new = (streams : S → Option (List StreamCall)) × Settles streams call old new
 
-  quiet_step : (side : Side) (call : PortCall) (old new : Socket S × Socket S) → AreSettled call old new →
-      MakesNoProgress call → IsOfTurn call → IsQuiet (stream_of old side) → IsQuiet (stream_of new side)
-  quiet_step side TurnBegins old new h still made q = absurd made
-  quiet_step side (Clock event) old new h still made q =
-      subst (λ (pair : Socket S × Socket S). IsQuiet (stream_of pair side)) (sym h.1) q
-  quiet_step Bot (Pulled Bot room pull bytes) old new h still made q = quiet_pulled room pull old.0 new.0 h.1.0 still made
-  quiet_step Bot (Pulled Server room pull bytes) old new h still made q = quiet_stays old.0 new.0 h.1.1 q
-  quiet_step Server (Pulled Bot room pull bytes) old new h still made q = quiet_stays old.1 new.1 h.1.1 q
-  quiet_step Server (Pulled Server room pull bytes) old new h still made q = quiet_pulled room pull old.1 new.1 h.1.0 still made
-  quiet_step Bot (Offered Bot bytes put) old new h still made q = quiet_stays old.0 new.0 h.1.0.unread q
-  quiet_step Bot (Offered Server bytes put) old new h still made q = quiet_stays old.0 new.0 h.1.1 q
-  quiet_step Server (Offered Bot bytes put) old new h still made q = quiet_stays old.1 new.1 h.1.1 q
-  quiet_step Server (Offered Server bytes put) old new h still made q = quiet_stays old.1 new.1 h.1.0.unread q
+  quiet_step : (call : PortCall) (old new : PerSide (Socket S)) → AreSettled call old new → MakesNoProgress call →
+      IsOfTurn call → (side : Side) → IsQuiet (at old side) → IsQuiet (at new side)
+  quiet_step TurnBegins old new h still made = absurd made
+  quiet_step (Clock event) old new h still made =
+      λ side q. subst (λ (sides : PerSide (Socket S)). IsQuiet (at sides side)) (sym h.1) q
+  quiet_step (Pulled side room pull bytes) old new h still made =
+      of_both (λ (one : Side). IsQuiet (at old one) → IsQuiet (at new one)) side
+      (λ q. quiet_pulled room pull (at old side) (at new side) h.1.0 still made)
+      (quiet_stays (at old (other side)) (at new (other side)) h.1.1)
+  quiet_step (Offered side bytes put) old new h still made =
+      of_both (λ (one : Side). IsQuiet (at old one) → IsQuiet (at new one)) side
+      (quiet_stays (at old side) (at new side) h.1.0.unread) (quiet_stays (at old (other side)) (at new (other side)) h.1.1)
 
-  full_step : (side : Side) (call : PortCall) (old new : Socket S × Socket S) → AreSettled call old new → IsOfTurn call →
-      IsFull (stream_of old side) → IsFull (stream_of new side)
-  full_step side TurnBegins old new h made f = absurd made
-  full_step side (Clock event) old new h made f =
-      subst (λ (pair : Socket S × Socket S). IsFull (stream_of pair side)) (sym h.1) f
-  full_step Bot (Pulled Bot room pull bytes) old new h made f = full_pulled room pull old.0 new.0 h.1.0 f
-  full_step Bot (Pulled Server room pull bytes) old new h made f = full_stays old.0 new.0 h.1.1 f
-  full_step Server (Pulled Bot room pull bytes) old new h made f = full_stays old.1 new.1 h.1.1 f
-  full_step Server (Pulled Server room pull bytes) old new h made f = full_pulled room pull old.1 new.1 h.1.0 f
-  full_step Bot (Offered Bot bytes put) old new h made f = full_stays old.0 new.0 h.1.0.unread f
-  full_step Bot (Offered Server bytes put) old new h made f = full_stays old.0 new.0 h.1.1 f
-  full_step Server (Offered Bot bytes put) old new h made f = full_stays old.1 new.1 h.1.1 f
-  full_step Server (Offered Server bytes put) old new h made f = full_stays old.1 new.1 h.1.0.unread f
+  full_step : (call : PortCall) (old new : PerSide (Socket S)) → AreSettled call old new → IsOfTurn call →
+      (side : Side) → IsFull (at old side) → IsFull (at new side)
+  full_step TurnBegins old new h made = absurd made
+  full_step (Clock event) old new h made =
+      λ side f. subst (λ (sides : PerSide (Socket S)). IsFull (at sides side)) (sym h.1) f
+  full_step (Pulled side room pull bytes) old new h made =
+      of_both (λ (one : Side). IsFull (at old one) → IsFull (at new one)) side
+      (full_pulled room pull (at old side) (at new side) h.1.0) (full_stays (at old (other side)) (at new (other side)) h.1.1)
+  full_step (Offered side bytes put) old new h made =
+      of_both (λ (one : Side). IsFull (at old one) → IsFull (at new one)) side
+      (full_stays (at old side) (at new side) h.1.0.unread) (full_stays (at old (other side)) (at new (other side)) h.1.1)
 
 -- ---- the calls of a turn
 
 -- the calls of ports do to the sockets of their session what `Settles` says
 abbrev pub PortsSettle : {P S : Type 0} → (P → PortCall → P → Type 0) → (P → SessionSockets S) → Type 0
 PortsSettle {P} port_transition view = (old new : P) (call : PortCall) → port_transition old call new →
-    AreSettled call ((view old).bot, (view old).server) ((view new).bot, (view new).server)
+    AreSettled call (view old).sides (view new).sides
 
 module _ {P S : Type 0} (port_transition : P → PortCall → P → Type 0) (view : P → SessionSockets S)
     (settles : PortsSettle port_transition view) (side : Side) where
@@ -108,16 +105,15 @@ module _ {P S : Type 0} (port_transition : P → PortCall → P → Type 0) (vie
   quiet_later [] a b h still made q = subst (λ (ports : P). IsQuiet (own ports)) (sym h) q
   quiet_later (call ∷ calls) a b h still made q =
       quiet_later calls h.0 b h.2 (All-tail MakesNoProgress call calls still) (All-tail IsOfTurn call calls made)
-      (quiet_step side call ((view a).bot, (view a).server) ((view h.0).bot, (view h.0).server) (settles a h.0 call h.1)
-      (All-head MakesNoProgress call calls still) (All-head IsOfTurn call calls made) q)
+      (quiet_step call (view a).sides (view h.0).sides (settles a h.0 call h.1) (All-head MakesNoProgress call calls still)
+      (All-head IsOfTurn call calls made) side q)
 
   full_later : (calls : List PortCall) (a b : P) → EvolvesBy port_transition a calls b → All IsOfTurn calls →
       IsFull (own a) → IsFull (own b)
   full_later [] a b h made f = subst (λ (ports : P). IsFull (own ports)) (sym h) f
   full_later (call ∷ calls) a b h made f =
       full_later calls h.0 b h.2 (All-tail IsOfTurn call calls made)
-      (full_step side call ((view a).bot, (view a).server) ((view h.0).bot, (view h.0).server) (settles a h.0 call h.1)
-      (All-head IsOfTurn call calls made) f)
+      (full_step call (view a).sides (view h.0).sides (settles a h.0 call h.1) (All-head IsOfTurn call calls made) side f)
 
   -- after a pull of the side that returned nothing
   pub quiet_found : (room : ℕ) (pull : Pull) (bytes : List ℕ) (calls : List PortCall) (k : ℕ) → k < length calls →

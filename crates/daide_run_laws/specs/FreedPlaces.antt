@@ -24,8 +24,7 @@ use Rattle.daide_sockets.specs.Clock.{IsAtMost, due_after, IsSeconds, IsIdleTime
 use Rattle.daide_sockets.specs.Table.{Table}
 use Rattle.daide_sockets.specs.Scheduling.{RunState, Schedules}
 use Rattle.daide_sockets.specs.Timers.{SessionTimers, is_got}
-use Rattle.daide_sockets.specs.Wakeups.{Wakes, PollsForPlaces, session_due}
-use Rattle.daide_run_laws.specs.NoLostWakeups.{socket_at}
+use Rattle.daide_sockets.specs.Wakeups.{Wakes, PollsForPlaces, session_due, socket_at}
 
 -- ---- the premises
 
@@ -96,8 +95,8 @@ peer_timeouts_left reading socket = one_if (is_some (due_after reading socket.si
 
 -- The timeouts that are left of a session, at most five: two of each peer, and the one of the initial message.
 abbrev pub timeouts_left : {S : Type 0} → SessionTimers S → ℕ
-timeouts_left session = peer_timeouts_left session.sockets.reading session.sockets.bot
-    + peer_timeouts_left session.sockets.reading session.sockets.server + one_if (is_some session.sockets.im_due)
+timeouts_left session = peer_timeouts_left session.sockets.reading session.sockets.sides.bot
+    + peer_timeouts_left session.sockets.reading session.sockets.sides.server + one_if (is_some session.sockets.im_due)
 
 -- how many pulls returned bytes of a peer
 abbrev pub deliveries : List PortCall → ℕ

@@ -15,18 +15,12 @@ use Rattle.daide_driver.specs.declared.place.SlabPlace.TheVariants.{Free}
 use Rattle.daide_driver.specs.Slab.{SlotView, IfHeldAt, IsAt}
 use Rattle.daide_settings.specs.declared.settings.Settings.{Settings}
 use Rattle.daide_event_loop.specs.Serving.{ServiceView, Round, Rounds, initial_service, have_all_come}
-use Rattle.daide_buffered_io.specs.Streams.{stream_of}
-use Rattle.daide_sockets.specs.declared.socket.Socket.{Socket}
 use Rattle.daide_sockets.specs.Clock.{IsAtMost}
 use Rattle.daide_sockets.specs.Lingering.{IsWriting}
 use Rattle.daide_sockets.specs.Scheduling.{RunState, Schedules, AwaitsBots}
 use Rattle.daide_sockets.specs.Table.{Table, is_reported_at, key_of}
 use Rattle.daide_sockets.specs.Timers.{SessionTimers}
-use Rattle.daide_sockets.specs.Wakeups.{SessionSockets, Wakes, PollsForPlaces, session_due}
-
--- the socket of a side
-abbrev pub socket_at : {S : Type 0} → SessionSockets S → Side → Socket S
-socket_at sockets = stream_of (sockets.bot, sockets.server)
+use Rattle.daide_sockets.specs.Wakeups.{SessionSockets, Wakes, PollsForPlaces, session_due, socket_at}
 
 -- The session at a place sleeps while the network is polled for this time. Nothing that was reported of its sockets is left.
 -- A side for whose bytes it has room is not readable, and nothing was read ahead. A side for which frames are queued, or bytes

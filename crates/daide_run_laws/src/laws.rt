@@ -23,12 +23,8 @@ use daide_sockets::ports::SocketPorts;
 /// Not said: that the network reports what becomes readable or writable after a call that would have blocked. That depends
 /// on the network.
 pub fn no_wakeup_is_lost<S: Duplex + Drop, N: Network, W: Sink + Drop>()
-    ensures { NoWakeupIsLost ⟦<Recording<SocketPorts<'static, S>, W> as Ports>⟧.transition (λ ports. record {
-      bot = ports.ports.bot;
-      server = ports.ports.server;
-      reading = ports.ports.idle.reading;
-      im_due = ports.ports.im_due;
-    }) S.calls N.transition }
+    ensures { NoWakeupIsLost ⟦<Recording<SocketPorts<'static, S>, W> as Ports>⟧.transition (λ ports. (timers_of ports.ports).sockets)
+        S.calls N.transition }
 {}
 
 /// No bot waits. Take a poll of a run over sockets that may block, after one round or more, while one more bot may be accepted

@@ -17,6 +17,7 @@ pub mod AccountedLemmas
 pub mod ClosingTimeLemmas
 pub mod SchedulingLemmas
 pub mod SocketLemmas
+mod PortLemmas
 mod AcceptLemmas
 mod AcceptFacts
 pub mod ControlInTimeLemmas

@@ -3,8 +3,8 @@ use Rattle.std.specs.Prelude.{ℕ, ◌-◌, ◌/◌, Option, Some, None, if◌th
 use Rattle.std.specs.Time.{instant_nanos}
 use Rattle.std.specs.declared.time.Instant.{Instant}
 use Rattle.daide_frame.specs.declared.side.Side.{Side}
+use Rattle.daide_frame.specs.PerSide.{PerSide, at}
 use Rattle.daide_protocol.specs.declared.ending.Ending.TheVariants.{Ended, Lost, Final, Error, Fault, Stopped}
-use Rattle.daide_buffered_io.specs.Streams.{stream_of}
 use Rattle.daide_io.specs.declared.fault_field.FaultField.{FaultField}
 use Rattle.daide_io.specs.declared.system.Cause.{Cause}
 use Rattle.daide_io.specs.declared.system.Cause.TheVariants as Causes
@@ -25,10 +25,10 @@ why_lost side timed seconds =
     if timed.is_stalled then Whys.Stalled side seconds else Whys.Ended (Causes.Session (Lost side)) None
 
 -- Any other cause is reported as it is, and a fault with the field that it is about. `seconds` is the stall timeout.
-abbrev pub why_by : Cause → Option FaultField → Timed × Timed → ℕ → Why
+abbrev pub why_by : Cause → Option FaultField → PerSide Timed → ℕ → Why
 why_by Causes.TurnsSpent field timed seconds = Whys.Ended Causes.TurnsSpent None
-why_by (Causes.Session (Ended side)) field timed seconds = why_ended side (stream_of timed side) seconds
-why_by (Causes.Session (Lost side)) field timed seconds = why_lost side (stream_of timed side) seconds
+why_by (Causes.Session (Ended side)) field timed seconds = why_ended side (at timed side) seconds
+why_by (Causes.Session (Lost side)) field timed seconds = why_lost side (at timed side) seconds
 why_by (Causes.Session (Final side)) field timed seconds = Whys.Ended (Causes.Session (Final side)) None
 why_by (Causes.Session (Error side)) field timed seconds = Whys.Ended (Causes.Session (Error side)) None
 why_by (Causes.Session (Fault side code)) field timed seconds = Whys.Ended (Causes.Session (Fault side code)) field

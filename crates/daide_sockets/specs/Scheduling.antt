@@ -62,7 +62,7 @@ sockets_in state = record { came = state.acceptor.came; arrivals = state.arrival
 
 -- the content of ports: the bot of their session, and its streams
 abbrev pub pair_of : {S : Type 0} → SocketPorts S → Paired S
-pair_of ports = record { identity = ports.identity; bot = ports.bot.stream; server = ports.server.stream }
+pair_of ports = record { identity = ports.identity; bot = ports.sides.bot.stream; server = ports.sides.server.stream }
 
 -- ---- accepts
 

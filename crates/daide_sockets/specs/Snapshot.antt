@@ -2,6 +2,7 @@
 use Rattle.std.specs.Prelude.{◌≡◌, ℕ, ◌-◌, ◌/◌, min, Bool, length, Option, Some, None}
 use Rattle.std.specs.Time.{instant_nanos}
 use Rattle.std.specs.declared.time.Instant.{Instant}
+use Rattle.daide_frame.specs.PerSide.{PerSide}
 use Rattle.daide_io.specs.declared.system.SessionStatus.{SessionStatus}
 use Rattle.daide_status.specs.declared.snapshot.RunStatus.{RunStatus}
 use Rattle.daide_status.specs.declared.snapshot.SessionRow.{SessionRow}
@@ -35,7 +36,7 @@ pub record IsRunStatus (came present pending lost : ℕ) (waiting stopping : Boo
 
 -- The row of the session of a bot: its number, the bot's address, its status, the bytes that the sockets of its bot and of the
 -- server hold, and the seconds since the last byte of each at this reading of the clock.
-pub record IsSessionRow {S : Type 0} (reading : Option Instant) (identity : Bot) (sockets : Socket S × Socket S)
+pub record IsSessionRow {S : Type 0} (reading : Option Instant) (identity : Bot) (sockets : PerSide (Socket S))
     (shown : SessionStatus) (row : SessionRow) : Type 0 where
   pub number : row.number ≡ identity.number
   pub bot : row.bot ≡ identity.address
@@ -44,11 +45,11 @@ pub record IsSessionRow {S : Type 0} (reading : Option Instant) (identity : Bot)
   pub account : row.account ≡ shown.account
   pub queued_to_bot : row.queued_to_bot ≡ shown.queued_to_bot
   pub queued_to_server : row.queued_to_server ≡ shown.queued_to_server
-  pub buffered_to_bot : row.buffered_to_bot ≡ length sockets.0.stream.write_buffer
-  pub buffered_to_server : row.buffered_to_server ≡ length sockets.1.stream.write_buffer
+  pub buffered_to_bot : row.buffered_to_bot ≡ length sockets.bot.stream.write_buffer
+  pub buffered_to_server : row.buffered_to_server ≡ length sockets.server.stream.write_buffer
   pub received_from_bot : row.received_from_bot ≡ shown.bytes.from_bot
   pub received_from_server : row.received_from_server ≡ shown.bytes.from_server
   pub sent_to_bot : row.sent_to_bot ≡ shown.bytes.to_bot
   pub sent_to_server : row.sent_to_server ≡ shown.bytes.to_server
-  pub bot_idle : row.bot_idle ≡ seconds_between sockets.0.heard_at reading
-  pub server_idle : row.server_idle ≡ seconds_between sockets.1.heard_at reading
+  pub bot_idle : row.bot_idle ≡ seconds_between sockets.bot.heard_at reading
+  pub server_idle : row.server_idle ≡ seconds_between sockets.server.heard_at reading

@@ -2,6 +2,9 @@
 use Rattle.std.specs.Prelude.{◌≡◌, ◌≢◌, ◌⊎◌, ◌||◌, ℕ, ◌+◌, ◌<◌, nat_lt, Bool, true, false, List, length, Option, Some, None}
 use Rattle.std.specs.declared.time.Duration.{Duration}
 use Rattle.std.specs.declared.time.Instant.{Instant}
+use Rattle.daide_frame.specs.declared.side.Side.{Side}
+use Rattle.daide_frame.specs.PerSide.{PerSide, both}
+use Rattle.daide_frame.specs.Side.{other}
 use Rattle.daide_io.specs.declared.ports.ClockEvent.{ClockEvent}
 use Rattle.daide_io.specs.declared.ports.ClockEvent.TheVariants.{NoEvent, ImTimeIsOver, StopIsRequested}
 use Rattle.daide_io.specs.declared.ports.Pull.{Pull}
@@ -10,12 +13,13 @@ use Rattle.daide_io.specs.declared.ports.Put.{Put}
 use Rattle.daide_io.specs.declared.ports.Put.TheVariants.{Took, Failed}
 use Rattle.daide_io.specs.Ports.{PortCall, TurnBegins, Clock, Pulled, Offered}
 use Rattle.daide_io.specs.Streams.{StreamCall}
-use Rattle.daide_buffered_io.specs.Streams.{Transfers, stream_of}
+use Rattle.daide_buffered_io.specs.Buffers.{Buffer}
+use Rattle.daide_buffered_io.specs.Streams.{Transfers}
 use Rattle.daide_sockets.specs.declared.socket.Socket.{Socket}
 use Rattle.daide_sockets.specs.declared.ports.SocketPorts.{SocketPorts}
 use Rattle.daide_sockets.specs.Lingering.{IsWriting, IsWritingOver}
 use Rattle.daide_sockets.specs.Clock.{due_after, IsStallEnd, StallsNext, has_stalled, is_past}
-use Rattle.daide_sockets.specs.Wakeups.{SessionSockets, Settles}
+use Rattle.daide_sockets.specs.Wakeups.{SessionSockets, Settles, socket_at}
 
 -- The sockets of a session with their deadlines; the idle timeout of its peers; whether the deadline of the initial message
 -- passed when its turn began, for the first time; and whether an operator's request stops the session in this turn.
@@ -25,27 +29,18 @@ pub record SessionTimers (S : Type 0) : Type 0 where
   pub im_timer_expired : Bool
   pub stops : Bool
 
+-- the streams of ports
+abbrev pub streams_of : {S : Type 0} → SocketPorts S → PerSide (Buffer S)
+streams_of ports = both ports.sides.bot.stream ports.sides.server.stream
+
 -- the timers of ports
 abbrev pub timers_of : {S : Type 0} → SocketPorts S → SessionTimers S
 timers_of ports = record {
-  sockets = record {
-    bot = ports.bot;
-    server = ports.server;
-    reading = ports.idle.reading;
-    im_due = ports.im_due;
-  };
+  sockets = record { sides = ports.sides; reading = ports.idle.reading; im_due = ports.im_due };
   idle_time = ports.idle.time;
   im_timer_expired = ports.im_timer_expired;
   stops = ports.stops;
 }
-
--- both sockets of a session
-abbrev pub both_sockets : {S : Type 0} → SessionTimers S → Socket S × Socket S
-both_sockets timers = (timers.sockets.bot, timers.sockets.server)
-
--- the same, the server's first
-abbrev pub swapped_sockets : {S : Type 0} → SessionTimers S → Socket S × Socket S
-swapped_sockets timers = (timers.sockets.server, timers.sockets.bot)
 
 -- a pull that returned bytes
 abbrev pub is_got : Pull → Bool
@@ -132,10 +127,9 @@ pub record BeginsAt {S : Type 0} (start : Option Instant) (times : Option Durati
     (session : SessionTimers S) : Type 0 where
   pub reading : session.sockets.reading ≡ start
   pub idle_time : session.idle_time ≡ times.0
-  pub stall_time : (session.sockets.bot.stall_time ≡ times.1) × (session.sockets.server.stall_time ≡ times.1)
-  pub silent_from : IsStallEnd start times.0 session.sockets.bot.silent_from
-      × IsStallEnd start times.0 session.sockets.server.silent_from
-  pub stalls_at : (session.sockets.bot.stalls_at ≡ None) × (session.sockets.server.stalls_at ≡ None)
+  pub stall_time : (side : Side) → (socket_at session.sockets side).stall_time ≡ times.1
+  pub silent_from : (side : Side) → IsStallEnd start times.0 (socket_at session.sockets side).silent_from
+  pub stalls_at : (side : Side) → (socket_at session.sockets side).stalls_at ≡ None
 
 -- ---- the clock
 
@@ -163,16 +157,15 @@ abbrev pub SetsTimers : {S : Type 0} → PortCall → SessionTimers S → Sessio
 SetsTimers TurnBegins old new = (new.idle_time ≡ old.idle_time)
     × (new.im_timer_expired ≡ is_past new.sockets.reading old.sockets.im_due)
     × (new.sockets.im_due ≡ due_after new.sockets.reading old.sockets.im_due)
-    × BeginsInTime new.sockets.reading old.sockets.bot new.sockets.bot
-    × BeginsInTime new.sockets.reading old.sockets.server new.sockets.server
+    × ((side : Side) → BeginsInTime new.sockets.reading (socket_at old.sockets side) (socket_at new.sockets side))
 SetsTimers (Clock event) old new =
     ((is_spent : Bool) × (event ≡ clock_event (is_spent || old.stops) old.im_timer_expired)) × (new ≡ old)
 SetsTimers (Pulled side room pull bytes) old new = SameClock old new
-    × PullsInTime old.sockets.reading old.idle_time pull (stream_of (both_sockets old) side) (stream_of (both_sockets new) side)
-    × FlushesInTime old.sockets.reading (stream_of (swapped_sockets old) side) (stream_of (swapped_sockets new) side)
+    × PullsInTime old.sockets.reading old.idle_time pull (socket_at old.sockets side) (socket_at new.sockets side)
+    × FlushesInTime old.sockets.reading (socket_at old.sockets (other side)) (socket_at new.sockets (other side))
 SetsTimers (Offered side bytes put) old new = SameClock old new
-    × PutsInTime old.sockets.reading bytes put (stream_of (both_sockets old) side) (stream_of (both_sockets new) side)
-    × FlushesInTime old.sockets.reading (stream_of (swapped_sockets old) side) (stream_of (swapped_sockets new) side)
+    × PutsInTime old.sockets.reading bytes put (socket_at old.sockets side) (socket_at new.sockets side)
+    × FlushesInTime old.sockets.reading (socket_at old.sockets (other side)) (socket_at new.sockets (other side))
 
 -- ---- ports
 
@@ -181,5 +174,5 @@ SetsTimers (Offered side bytes put) old new = SameClock old new
 abbrev pub PortsEvolve : {S : Type 0} → (S → Option (List ℕ)) → (S → Option (List ℕ)) → (S → Option (List StreamCall)) →
     SocketPorts S → PortCall → SocketPorts S → Type 0
 PortsEvolve to_give taken calls old call new =
-    Transfers to_give taken (old.bot.stream, old.server.stream) call (new.bot.stream, new.server.stream)
-    × Settles calls call (old.bot, old.server) (new.bot, new.server) × SetsTimers call (timers_of old) (timers_of new)
+    Transfers to_give taken (streams_of old) call (streams_of new) × Settles calls call old.sides new.sides
+    × SetsTimers call (timers_of old) (timers_of new)

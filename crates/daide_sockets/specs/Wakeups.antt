@@ -1,10 +1,12 @@
 -- What a session's sockets know without a call of the network, and how the calls of its ports change that. What each call
 -- of a system keeps of the places. (own)
-use Rattle.std.specs.Prelude.{◌≡◌, ◌⊎◌, ℕ, ◌<◌, ◌≤◌, ◌==◌, ◌||◌, Bool, true, false, List, [], ◌∷◌, length, Option, All}
+use Rattle.std.specs.Prelude.{◌≡◌, ◌⊎◌, ℕ, ◌<◌, ◌≤◌, ◌==◌, ◌||◌, ◌&&◌, Bool, true, false, List, [], ◌∷◌, length, Option, All}
 use Rattle.std.specs.declared.time.Duration.{Duration}
 use Rattle.std.specs.declared.time.Instant.{Instant}
 use Rattle.daide_frame.specs.declared.side.Side.{Side}
 use Rattle.daide_frame.specs.declared.side.Side.TheVariants.{Bot, Server}
+use Rattle.daide_frame.specs.PerSide.{PerSide, at}
+use Rattle.daide_frame.specs.Side.{other}
 use Rattle.daide_io.specs.declared.ports.Pull.{Pull}
 use Rattle.daide_io.specs.declared.ports.Pull.TheVariants.{Got, Idle}
 use Rattle.daide_io.specs.declared.ports.Put.{Put}
@@ -18,9 +20,10 @@ use Rattle.daide_io.specs.ReadyQueue.{is_among}
 use Rattle.daide_io.specs.Streams.{StreamCall}
 use Rattle.daide_io.specs.System.{SystemCall, Polls, Shows, Accepts, Connects, BeginsTurn, Rests, Retires, Notifies}
 use Rattle.daide_buffered_io.specs.declared.readiness.Readiness.{Readiness}
+use Rattle.daide_buffered_io.specs.Buffers.{IsFlushed}
 use Rattle.daide_buffered_io.specs.Calls.{OnlyPuts}
-use Rattle.daide_buffered_io.specs.Streams.{stream_of}
 use Rattle.daide_sockets.specs.declared.socket.Socket.{Socket}
+use Rattle.daide_sockets.specs.Lingering.{IsWriting}
 use Rattle.daide_sockets.specs.Sockets.{has_socket_work}
 use Rattle.daide_sockets.specs.Table.{arming_all}
 use Rattle.daide_sockets.specs.Table.{Table, AreDeadlinesBounded, PollsOnce, IsPollTime, merged, report_at, is_reported_at}
@@ -36,6 +39,11 @@ pub record StaysUnread {S : Type 0} (calls : S → Option (List StreamCall)) (ol
   pub full : old.readiness.may_write ≡ false → new.readiness.may_write ≡ false
   pub writes : OnlyPuts calls old.readiness old.stream.stream new.readiness new.stream.stream
   pub tries_again : old.tries_again ≡ true → new.tries_again ≡ true
+
+-- What is held for a socket was written once, unless it gathers the parts of an answer to bytes that it just returned.
+abbrev pub IsFlushedUnlessGathered : {S : Type 0} → (S → Option (List StreamCall)) → Socket S → Socket S → Type 0
+IsFlushedUnlessGathered calls old new = (old.is_gathering && old.has_pulled) ≡ false → IsWriting old.stream →
+    IsFlushed calls old.readiness old.stream new.readiness new.stream
 
 -- a pull that returned neither a byte nor the end
 abbrev pub IsNothing : Pull → Type 0
@@ -61,26 +69,29 @@ abbrev pub BeginsToSettle : {S : Type 0} → (S → Option (List StreamCall)) �
 BeginsToSettle calls old new = (new.key ≡ old.key) × (report : Readiness)
     × OnlyPuts calls (merged old.readiness report) old.stream.stream new.readiness new.stream.stream
 
--- What the sockets of a session, the bot's and the server's, know after a call of its ports. From the socket of the side
--- that the call does not name nothing is read.
-abbrev pub Settles : {S : Type 0} → (S → Option (List StreamCall)) → PortCall → Socket S × Socket S → Socket S × Socket S →
+-- What the sockets of a session know after a call of its ports. From the socket of the side that the call does not name
+-- nothing is read.
+abbrev pub Settles : {S : Type 0} → (S → Option (List StreamCall)) → PortCall → PerSide (Socket S) → PerSide (Socket S) →
     Type 0
-Settles calls TurnBegins old new = BeginsToSettle calls old.0 new.0 × BeginsToSettle calls old.1 new.1
+Settles calls TurnBegins old new = (side : Side) → BeginsToSettle calls (at old side) (at new side)
 Settles calls (Clock event) old new = new ≡ old
-Settles calls (Pulled side room pull bytes) old new = IsPulled room pull (stream_of old side) (stream_of new side)
-    × StaysUnread calls (stream_of (old.1, old.0) side) (stream_of (new.1, new.0) side)
-Settles calls (Offered side bytes put) old new = IsOffered calls bytes put (stream_of old side) (stream_of new side)
-    × StaysUnread calls (stream_of (old.1, old.0) side) (stream_of (new.1, new.0) side)
+Settles calls (Pulled side room pull bytes) old new =
+    IsPulled room pull (at old side) (at new side) × StaysUnread calls (at old (other side)) (at new (other side))
+Settles calls (Offered side bytes put) old new =
+    IsOffered calls bytes put (at old side) (at new side) × StaysUnread calls (at old (other side)) (at new (other side))
 
 -- ---- rest
 
 -- The sockets of a session, the reading of the clock at which its last turn began, and the deadline of its initial
 -- message.
 pub record SessionSockets (S : Type 0) : Type 0 where
-  pub bot : Socket S
-  pub server : Socket S
+  pub sides : PerSide (Socket S)
   pub reading : Option Instant
   pub im_due : Option Instant
+
+-- the socket of a side
+abbrev pub socket_at : {S : Type 0} → SessionSockets S → Side → Socket S
+socket_at session side = at session.sides side
 
 -- Something may be done at once for the socket of a row: a poll reported something that was not taken yet, or there is work.
 abbrev pub may_go_on : {S : Type 0} → Table → ℕ → Socket S → Bool
@@ -89,13 +100,13 @@ may_go_on table key socket = is_reported_at table key || has_socket_work socket.
 -- the same for either socket of the session at a place
 abbrev pub may_session_go_on : {S : Type 0} → Table → ℕ → SessionSockets S → Bool
 may_session_go_on table place session =
-    may_go_on table (key_of place Bot) session.bot || may_go_on table (key_of place Server) session.server
+    may_go_on table (key_of place Bot) session.sides.bot || may_go_on table (key_of place Server) session.sides.server
 
 -- the nearest deadline of a session: of its peers' timeouts, and of the initial message
 abbrev pub session_due : {S : Type 0} → SessionSockets S → Option Instant
 session_due session =
-    earlier (earlier (next_deadline session.reading session.bot.stalls_at session.bot.silent_from)
-    (next_deadline session.reading session.server.stalls_at session.server.silent_from)) session.im_due
+    earlier (earlier (next_deadline session.reading session.sides.bot.stalls_at session.sides.bot.silent_from)
+    (next_deadline session.reading session.sides.server.stalls_at session.sides.server.silent_from)) session.im_due
 
 -- A session is to rest: it does exactly if nothing may be done at once for it, and then until its nearest deadline.
 abbrev pub RestsFor : {S : Type 0} → Bool → Table → ℕ → SessionSockets S → Table → Type 0
@@ -119,7 +130,7 @@ KeepsOtherPlaces old place new =
 -- reported of the server is known of its socket then. `view` is the content of ports.
 abbrev pub KeepsReports : {P S : Type 0} → (P → SessionSockets S) → Connect P → Table → ℕ → Table → Type 0
 KeepsReports view (Ready ports) old place new = (report_at new (key_of place Bot) ≡ report_at old (key_of place Bot))
-    × (merged (view ports).server.readiness (report_at old (key_of place Server)) ≡ (view ports).server.readiness)
+    × (merged (view ports).sides.server.readiness (report_at old (key_of place Server)) ≡ (view ports).sides.server.readiness)
 KeepsReports view Failed old place new = Unit {0}
 KeepsReports view Pending old place new = report_at new (key_of place Bot) ≡ report_at old (key_of place Bot)
 
@@ -158,10 +169,8 @@ GoesBy {N} {C} kind transition old new =
 -- more is in the rows.
 pub record TakesReports {S : Type 0} (calls : S → Option (List StreamCall)) (old : Table) (place : ℕ)
     (before after : SessionSockets S) (new : Table) : Type 0 where
-  pub bot : OnlyPuts calls (merged before.bot.readiness (report_at old (key_of place Bot))) before.bot.stream.stream
-      after.bot.readiness after.bot.stream.stream
-  pub server : OnlyPuts calls (merged before.server.readiness (report_at old (key_of place Server))) before.server.stream.stream
-      after.server.readiness after.server.stream.stream
+  pub writes : (side : Side) → OnlyPuts calls (merged (socket_at before side).readiness (report_at old (key_of place side)))
+      (socket_at before side).stream.stream (socket_at after side).readiness (socket_at after side).stream.stream
   pub table : new ≡ without_reports old place
 
 -- ---- a poll

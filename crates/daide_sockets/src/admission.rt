@@ -548,7 +548,7 @@ impl<'w, S: Duplex + Drop> PendingConnection<'w, S> {
         ensures joined { IfOk result (λ ports. IsJoined self.entry (pair_of ports)) }
         ensures im_due { IfOk result (λ ports. ports.im_due ≡ self.entry.im_due) }
         ensures begins { IfOk result (λ ports. BeginsAt now times (timers_of ports)) }
-        ensures known { IfOk result (λ ports. self.entry.known ≡ Some ports.server.readiness) }
+        ensures known { IfOk result (λ ports. self.entry.known ≡ Some ports.sides.server.readiness) }
         ensures unreached { IfErr result (λ left. (left.identity ≡ self.entry.identity)
             × (left.bot.stream ≡ self.entry.bot) × (self.entry.server ≡ None)) }
     {

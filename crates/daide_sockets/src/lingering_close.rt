@@ -485,8 +485,8 @@ impl<'w, S: Duplex + Drop> Closings<'w, S> {
         ensures closes { ClosesBothAt S.to_give S.taken S.calls poller.old.table.reading self.old
             (pair_of ports.entry) self.new }
         ensures calls { (mid : N)
-            × FollowsAtMostOnce N.transition ports.entry.bot.stream.stream poller.old.network mid
-            × FollowsAtMostOnce N.transition ports.entry.server.stream.stream mid poller.new.network }
+            × FollowsAtMostOnce N.transition ports.entry.sides.bot.stream.stream poller.old.network mid
+            × FollowsAtMostOnce N.transition ports.entry.sides.server.stream.stream mid poller.new.network }
         ensures clock { poller.new.table.reading ≡ poller.old.table.reading }
         ensures rows { KeepsClosingRows (without_reports poller.old.table place) (closing_keys self.old.streams)
             poller.new.table (closing_keys self.new.streams) }

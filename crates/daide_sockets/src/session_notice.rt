@@ -4,8 +4,9 @@ ghost use Rattle.std.specs.Prelude.{◌≡◌};
 ghost use Rattle.daide_protocol.specs.Account.{nothing_accounted};
 ghost use Rattle.daide_sockets.specs.Lines.{why_by, why_ended, milliseconds_between};
 
-use crate::timed::{Timed, timed_at};
+use crate::timed::Timed;
 use daide_frame::code::Code;
+use daide_frame::per_side::PerSide;
 use daide_frame::side::Side;
 use daide_io::fault_field::{FaultCause, FaultField};
 use daide_io::system::{Cause, SessionEnd};
@@ -97,10 +98,10 @@ impl SessionNotice {
     pub fn of_end(
         session: (u32, Lasted),
         end: SessionEnd,
-        timed: (Timed, Timed),
+        timed: &PerSide<Timed>,
         stall_seconds: u32,
     ) -> SessionNotice
-        ensures { result ≡ SessionNotice.Ended session.0 session.1 (why_by end.cause end.fault_field timed stall_seconds)
+        ensures { result ≡ SessionNotice.Ended session.0 session.1 (why_by end.cause end.fault_field timed.now stall_seconds)
             end.account }
     {
         let (number, lasted) = session;
@@ -156,16 +157,14 @@ fn why_ended(side: Side, timed: Timed, stall_seconds: u32) -> Why
 pub fn why_of(
     cause: Cause,
     field: Option<FaultField>,
-    timed: (Timed, Timed),
+    timed: &PerSide<Timed>,
     stall_seconds: u32,
 ) -> Why
-    ensures { result ≡ why_by cause field timed stall_seconds }
+    ensures { result ≡ why_by cause field timed.now stall_seconds }
 {
     match cause {
-        Cause::Session(Ending::Ended(side)) => {
-            why_ended(side, timed_at(timed, side), stall_seconds)
-        }
-        Cause::Session(Ending::Lost(side)) if timed_at(timed, side).is_stalled => {
+        Cause::Session(Ending::Ended(side)) => { why_ended(side, *timed.at(side), stall_seconds) }
+        Cause::Session(Ending::Lost(side)) if timed.at(side).is_stalled => {
             Why::Stalled(side, stall_seconds)
         }
         Cause::Session(Ending::Fault(_, _)) => Why::Ended(cause, field),

@@ -4,7 +4,7 @@
 //! session, and at most `MOST_HELD` bytes each way of each socket. It works over any stream, and its contracts state the
 //! bytes that this returned and accepted.
 
-ghost use Rattle.std.specs.Prelude.{◌≡◌, ◌⊎◌, ℕ, ◌+◌, ◌<◌, ◌||◌, ◌&&◌, nat_lt, Bool, IsNone, IfSome, IfNone, None, [], min, length, take, true, false};
+ghost use Rattle.std.specs.Prelude.{◌≡◌, ◌⊎◌, ℕ, ◌+◌, ◌<◌, ◌||◌, nat_lt, Bool, IsNone, IfSome, IfNone, None, [], min, length, take, true, false};
 ghost use Rattle.daide_sockets.specs.Clock.{earlier, next_deadline, StallsNext, has_stalled, is_past};
 ghost use Rattle.daide_io.specs.Network.{Follows};
 ghost use Rattle.daide_io.specs.Ports.{IsPullWithin, IsPutWithin, pulled_len};
@@ -17,7 +17,7 @@ ghost use Rattle.daide_sockets.specs.Pairing.{IsFresh};
 ghost use Rattle.daide_sockets.specs.Sockets.{after_move, has_socket_work};
 ghost use Rattle.daide_sockets.specs.Table.{freed, merged, no_report, report_at, without_report};
 ghost use Rattle.daide_sockets.specs.Timers.{IsStallKept, FlushesInTime, BeginsInTime, PutsInTime};
-ghost use Rattle.daide_sockets.specs.Wakeups.{StaysUnread, IsNothing, IsPulled, IsOffered};
+ghost use Rattle.daide_sockets.specs.Wakeups.{StaysUnread, IsFlushedUnlessGathered, IsNothing, IsPulled, IsOffered};
 
 use crate::clock::{earlier, is_past, stalls_next};
 use crate::poller::Poller;
@@ -62,6 +62,8 @@ pub struct Socket<'w, S: Drop> {
     pub(crate) has_pulled: bool,
     /// Whether a read or a write since its turn began must be tried again, since it was interrupted each time.
     pub(crate) tries_again: bool,
+    /// For how many turns bytes have been buffered.
+    held: TurnsHeld,
 }
 
 impl<'w, S: Duplex + Drop> Socket<'w, S> {
@@ -132,6 +134,7 @@ impl<'w, S: Drop> Socket<'w, S> {
             is_gathering: false,
             has_pulled: false,
             tries_again: false,
+            held: TurnsHeld::NONE,
         }
     }
 
@@ -379,8 +382,7 @@ impl<S: Duplex + Drop> Socket<'_, S> {
         ensures timed { self.new.timed ≡ self.old.timed }
         ensures gathering { self.old.is_gathering ≡ true → self.old.has_pulled ≡ true → self.new ≡ self.old }
         ensures stays { StaysUnread S.calls self.old self.new }
-        ensures written { (self.old.is_gathering && self.old.has_pulled) ≡ false → IsWriting self.old.stream →
-            IsFlushed S.calls self.old.readiness self.old.stream self.new.readiness self.new.stream }
+        ensures written { IsFlushedUnlessGathered S.calls self.old self.new }
         ensures in_time { FlushesInTime now self.old self.new }
     {
         if self.is_gathering && self.has_pulled {
@@ -407,7 +409,7 @@ fn is_nothing(pull: Pull) -> bool
 
 /// The number of turns since the last write to a socket with buffered bytes.
 #[derive(Clone, Copy)]
-pub(crate) struct TurnsHeld {
+struct TurnsHeld {
     turns: usize,
     /// How many bytes were buffered when the last of them began.
     len: usize,
@@ -415,11 +417,11 @@ pub(crate) struct TurnsHeld {
 
 impl TurnsHeld {
     /// The state with an empty write buffer.
-    pub(crate) const NONE: TurnsHeld = TurnsHeld { turns: 0, len: 0 };
+    const NONE: TurnsHeld = TurnsHeld { turns: 0, len: 0 };
 
     /// Returns the state after one more turn began. If fewer bytes are buffered than in the turn before, some were written
     /// in it.
-    pub(crate) fn with_turn<S: Drop>(self, stream: &Buffered<S>) -> TurnsHeld {
+    fn with_turn<S: Drop>(self, stream: &Buffered<S>) -> TurnsHeld {
         if stream.is_written() {
             return TurnsHeld::NONE;
         }
@@ -441,7 +443,7 @@ impl TurnsHeld {
 impl<S: Duplex + Drop> Socket<'_, S> {
     /// Writes buffered bytes whose turns are over.
     #[tactic(auto, using(daide_buffered_io::proofs::BufferLemmas::same_passes))]
-    fn flush_late(&mut self, now: Option<Instant>, turns: TurnsHeld)
+    fn flush_late(&mut self, now: Option<Instant>)
         ensures passes { Passes S.to_give S.taken self.old.stream [] [] self.new.stream }
         ensures unread { ReadsNothing S.to_give self.old.stream self.new.stream }
         ensures timed { self.new.timed ≡ self.old.timed }
@@ -450,7 +452,7 @@ impl<S: Duplex + Drop> Socket<'_, S> {
         ensures writes { OnlyPuts S.calls self.old.readiness self.old.stream.stream self.new.readiness self.new.stream.stream }
         ensures key { self.new.key ≡ self.old.key }
     {
-        if turns.is_over() {
+        if self.held.is_over() {
             self.flush_at(now);
         }
     }
@@ -459,7 +461,7 @@ impl<S: Duplex + Drop> Socket<'_, S> {
     /// over.
     #[tactic(auto, using(daide_buffered_io::proofs::BufferLemmas::flush_then, daide_buffered_io::proofs::BufferLemmas::unread_then))]
     #[inline(always)]
-    pub(crate) fn begin_turn(&mut self, now: Option<Instant>, turns: TurnsHeld)
+    pub(crate) fn begin_turn(&mut self, now: Option<Instant>)
         ensures passes { Passes S.to_give S.taken self.old.stream [] [] self.new.stream }
         ensures unread { ReadsNothing S.to_give self.old.stream self.new.stream }
         ensures silent { self.new.timed.is_silent ≡ self.old.timed.is_silent }
@@ -471,7 +473,8 @@ impl<S: Duplex + Drop> Socket<'_, S> {
     {
         self.is_gathering = false;
         self.tries_again = false;
+        self.held = self.held.with_turn(&self.stream);
         self.give_up_stalled(now);
-        self.flush_late(now, turns);
+        self.flush_late(now);
     }
 }

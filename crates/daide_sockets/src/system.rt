@@ -44,6 +44,8 @@ use crate::session_notice::{Lasted, SessionNotice};
 use crate::system::beginning::{Listening, RunLists};
 use crate::table::{SocketTable, server_key};
 use daide_buffered_io::pool::Pool;
+use daide_frame::per_side::PerSide;
+use daide_frame::side::Side;
 use daide_io::network::Network;
 use daide_io::ready_queue::ReadyQueue;
 use daide_io::system::{Connect, Notice, Orders, SessionEnd, SessionStatus, System};
@@ -264,17 +266,18 @@ impl<'w, N: Network, E: Write + Drop> Sockets<'w, N, E> {
 
     /// Returns the gateway's own port of a session's connection to the server, if the system says it.
     fn port_to_server(&self, ports: &SocketPorts<'w, N::Connection>) -> Option<u16> {
-        let (_bot, server) = ports.sockets();
+        let server = ports.sockets().at(Side::Server);
         let own = self.poller.network.local_address(server.connection())?;
         Some(own.port())
     }
 
     /// Returns the row of a session with this status.
     fn row_of(&self, ports: &SocketPorts<'w, N::Connection>, status: SessionStatus) -> SessionRow
-        ensures { IsSessionRow self.now.poller.table.reading ports.now.identity (ports.now.bot, ports.now.server) status result }
+        ensures { IsSessionRow self.now.poller.table.reading ports.now.identity ports.now.sides status result }
     {
         let identity = ports.identity();
-        let (bot, server) = ports.sockets();
+        let bot = ports.sockets().at(Side::Bot);
+        let server = ports.sockets().at(Side::Server);
         let now = self.poller.table.now();
         SessionRow {
             number: identity.number,
@@ -413,7 +416,7 @@ impl<'w, N: Network, E: Write + Drop> System<SocketPorts<'w, N::Connection>> for
             (run_state (self.new.poller.network, self.new.poller.table) (self.new.idle_time, self.new.stall_time) self.new.acceptor
             self.new.arrivals.items self.new.closings) }
         ensures shows { (row : SessionRow) × IsSessionRow self.old.poller.table.reading ports.now.identity
-            (ports.now.bot, ports.now.server) status row
+            ports.now.sides status row
             × Each (PlaceShows row) (places self.old.control.slots) (places self.new.control.slots) }
         ensures same { self.new ≡ record self.old { control = self.new.control } }
     {
@@ -430,9 +433,9 @@ impl<'w, N: Network, E: Write + Drop> System<SocketPorts<'w, N::Connection>> for
             self.old.arrivals.items self.old.closings) (BeginsTurn place ports.old ports.new)
             (run_state (self.new.poller.network, self.new.poller.table) (self.new.idle_time, self.new.stall_time) self.new.acceptor
             self.new.arrivals.items self.new.closings) }
-        ensures silent { (ports.new.bot.timed.is_silent ≡ ports.old.bot.timed.is_silent)
-            × (ports.new.server.timed.is_silent ≡ ports.old.server.timed.is_silent) }
-        ensures gathering { (ports.new.bot.is_gathering ≡ false) × (ports.new.server.is_gathering ≡ false) }
+        ensures silent { (ports.new.sides.bot.timed.is_silent ≡ ports.old.sides.bot.timed.is_silent)
+            × (ports.new.sides.server.timed.is_silent ≡ ports.old.sides.server.timed.is_silent) }
+        ensures gathering { (ports.new.sides.bot.is_gathering ≡ false) × (ports.new.sides.server.is_gathering ≡ false) }
         ensures identity { ports.new.identity ≡ ports.old.identity }
         ensures same { self.new ≡ record self.old { poller = self.new.poller } }
         ensures clock { self.new.poller.table.reading ≡ self.old.poller.table.reading }
@@ -600,9 +603,9 @@ impl<'w, N: Network, E: Write + Drop> System<SocketPorts<'w, N::Connection>> for
         self.present.remove(identity.number);
         let lasted = Lasted::between(identity.since, self.poller.table.now());
         let session = (identity.number, lasted);
-        let (bot, server) = ports.sockets();
-        let timed = (bot.timed, server.timed);
-        let notice = SessionNotice::of_end(session, end, timed, self.stall_seconds);
+        let sockets = ports.sockets();
+        let timed = PerSide::new(sockets.at(Side::Bot).timed, sockets.at(Side::Server).timed);
+        let notice = SessionNotice::of_end(session, end, &timed, self.stall_seconds);
         self.log_session(notice);
         self.poller.table.forget(place);
         self.closings.begin_both(&mut self.poller, place, ports);

@@ -1,10 +1,5 @@
 //! The timeouts of a socket that expired, which `--verbose` reports.
 
-ghost use Rattle.std.specs.Prelude.{◌≡◌};
-ghost use Rattle.daide_buffered_io.specs.Streams.{stream_of};
-
-use daide_frame::side::Side;
-
 /// The timeouts of a socket that expired.
 #[derive(Clone, Copy)]
 pub struct Timed {
@@ -24,14 +19,4 @@ impl Timed {
         is_stalled: false,
         ends_stalled: false,
     };
-}
-
-/// Returns a side's expired timeouts, out of those of the bot and the server.
-pub(crate) fn timed_at(timed: (Timed, Timed), side: Side) -> Timed
-    ensures { result ≡ stream_of timed side }
-{
-    match side {
-        Side::Bot => timed.0,
-        Side::Server => timed.1,
-    }
 }

@@ -1,6 +1,7 @@
 //! The log lines of sessions, of a run's capacity, and of faults of records: the text of each.
 
 use daide_frame::code::Code;
+use daide_frame::per_side::PerSide;
 use daide_frame::side::Side;
 use daide_gate::{Account, Cause, FaultField, Level, SessionEnd, SideCounts};
 use daide_protocol::BotName;
@@ -97,7 +98,7 @@ const TIMES: &[(Ending, Timed, Timed, Why)] = &[
 #[test]
 fn times_are_named_in_place_of_the_event(_rt: HostRuntime) -> Result<(), Fail> {
     for (ending, bot, server, want) in TIMES {
-        let why = why_of(Cause::Session(*ending), None, (*bot, *server), 60);
+        let why = why_of(Cause::Session(*ending), None, &PerSide::new(*bot, *server), 60);
         same(&why, want, ending)?;
     }
     Ok(())
@@ -137,9 +138,8 @@ fn lines_of_a_session(rt: HostRuntime) -> Result<(), Fail> {
     let own = "[::1]:40000".parse()?;
     let began = SessionNotice::Began { number: 7, bot }.to_string(rt.alloc())?;
     let reached = SessionNotice::Reached { number: 7, own }.to_string(rt.alloc())?;
-    let ended = SessionNotice::of_end((7, TIMED), end, (Timed::NONE, Timed::NONE), 60).to_string(
-        rt.alloc(),
-    )?;
+    let timed = PerSide::new(Timed::NONE, Timed::NONE);
+    let ended = SessionNotice::of_end((7, TIMED), end, &timed, 60).to_string(rt.alloc())?;
     let alone = SessionNotice::of_no_server(8, UNTIMED).to_string(rt.alloc())?;
     let lines = (
         began.as_str(),

@@ -567,8 +567,9 @@ impl<'w, 'n> ObservedSockets<'w, 'n> {
         &mut self,
         ports: SocketPorts<'w, MemoryConnection<'n>>,
     ) -> Option<ObservedPorts<'w, 'n>> {
-        let (bot, server) = ports.sockets();
-        let (bot, server) = (bot.connection().wire, server.connection().wire);
+        let sockets = ports.sockets();
+        let bot = sockets.at(Side::Bot).connection().wire;
+        let server = sockets.at(Side::Server).connection().wire;
         let machine = Session::new(self.alloc, self.config).ok()?;
         let mut state = self.world.state.try_borrow_mut().ok()?;
         let began_at = join(&mut state, ports.identity().number, bot, server);

@@ -21,6 +21,7 @@ use crate::admission::{PendingConnection, Unreached};
 use crate::ports::SocketPorts;
 use crate::session_notice::{Lasted, SessionNotice};
 use crate::table::{bot_key, server_key};
+use daide_frame::side::Side;
 use daide_io::network::Network;
 use std::io::Write;
 use std::net::SocketAddr;
@@ -30,7 +31,7 @@ impl<'w, N: Network, E: Write + Drop> Sockets<'w, N, E> {
     pub(super) fn log_server(&mut self, ports: &SocketPorts<'w, N::Connection>)
         ensures { self.new ≡ record self.old { errors = self.new.errors } }
     {
-        let (_bot, server) = ports.sockets();
+        let server = ports.sockets().at(Side::Server);
         if let Some(own) = self.poller.network.local_address(server.connection()) {
             let number = ports.identity().number;
             self.log_session(SessionNotice::Reached { number, own });

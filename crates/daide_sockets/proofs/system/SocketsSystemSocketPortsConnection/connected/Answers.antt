@@ -130,7 +130,7 @@ returns-in-Ok-clause-transition g c =
           connect_kept _ _ c.args.place _ key table,
           (
             connect_bot _ _ c.args.place _ key table,
-            connected_reports c.advances.new.self.known c.in-Ok.ports.server.readiness
+            connected_reports c.advances.new.self.known c.in-Ok.ports.sides.server.readiness
                 (report_at old (key_of c.args.place Server)) reported c.in-Ok.ensures.known,
           ),
         ),
