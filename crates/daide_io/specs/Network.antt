@@ -11,10 +11,10 @@ use Rattle.daide_io.specs.declared.network.ConnectStatus.{ConnectStatus}
 use Rattle.daide_io.specs.declared.network.ConnectStatus.TheVariants.{Connected, Failed, Pending}
 
 -- the state of a connect, by why it failed, if it did, and by whether it has a peer
-abbrev pub status_of : Option ErrorKind → Bool → ConnectStatus
-status_of (Some failure) has_peer = Failed
-status_of None true = Connected
-status_of None false = Pending
+abbrev pub connect_status : Option ErrorKind → Bool → ConnectStatus
+connect_status (Some failure) has_peer = Failed
+connect_status None true = Connected
+connect_status None false = Pending
 
 -- One call with its result: a reading of the clock; a poll, with its timeout and what it reported; the listener that is
 -- followed under a key; whether so many descriptors are free; a connection that is accepted, with its peer's address; the end of

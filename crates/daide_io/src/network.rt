@@ -7,7 +7,7 @@ ghost use Rattle.std.specs.Prelude.{◌≡◌};
 ghost use Rattle.daide_io.specs.Network.{NetworkCall, ReadsClock, Polls, Listens, ChecksDescriptors, AcceptsConnection};
 ghost use Rattle.daide_io.specs.Streams.{IsSameStream};
 ghost use Rattle.daide_io.specs.Network.{StopsListening, ListensForControl, AcceptsControl, BeginsConnect, Follows, AsksConnect};
-ghost use Rattle.daide_io.specs.Network.{status_of};
+ghost use Rattle.daide_io.specs.Network.{connect_status};
 
 use crate::duplex::Duplex;
 use std::io;
@@ -58,7 +58,7 @@ pub enum ConnectStatus {
 impl ConnectReport {
     /// Returns the state of the connect: it failed if a failure is reported, and otherwise it is pending until it has a peer.
     pub fn status(self) -> ConnectStatus
-        ensures { result ≡ status_of self.failure self.has_peer }
+        ensures { result ≡ connect_status self.failure self.has_peer }
     {
         match self.failure {
             Some(_) => ConnectStatus::Failed,

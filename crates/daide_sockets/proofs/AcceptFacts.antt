@@ -35,37 +35,37 @@ module _ {C : Type 0} where
   after_follow connection old new (inl same) = ap accepts_in same
   after_follow connection old new (inr h) = let call = after_call old new _ h.3 in omega (arith, call)
 
-  after_begun : (begun : Result C Error) (old new : List (NetworkCall C)) → FollowsBegun Called begun old new →
+  after_begun : (key : ℕ) (begun : Result C Error) (old new : List (NetworkCall C)) → FollowsBegun Called key begun old new →
       accepts_in new ≡ accepts_in old
-  after_begun (Ok connection) old new h = after_follow connection old new h
-  after_begun (Err error) old new h = ap accepts_in h
+  after_begun key (Ok connection) old new h = let call = after_call old new _ h.2 in omega (arith, call)
+  after_begun key (Err error) old new h = ap accepts_in h
 
   after_accepted : (accepted : Result (C × SocketAddr) Error) (old new : List (NetworkCall C)) →
       FollowsAccepted Called accepted old new → accepts_in new ≡ accepts_in old
   after_accepted (Ok came) old new h = after_follow came.0 old new h
   after_accepted (Err error) old new h = ap accepts_in h
 
-  after_connects : (addresses : List SocketAddr) (place count : ℕ) (old new : List (NetworkCall C)) →
-      ConnectsFrom Called addresses place count old new → accepts_in new ≡ accepts_in old
-  after_connects addresses place zero old new h = ap accepts_in h
-  after_connects addresses place (suc count) old new h =
-      let before = after_connects addresses place count old h.0 h.2 in
+  after_connects : (addresses : List SocketAddr) (key place count : ℕ) (old new : List (NetworkCall C)) →
+      ConnectsFrom Called addresses key place count old new → accepts_in new ≡ accepts_in old
+  after_connects addresses key place zero old new h = ap accepts_in h
+  after_connects addresses key place (suc count) old new h =
+      let before = after_connects addresses key place count old h.0 h.2 in
       let call = after_call h.0 h.4.mid _ h.4.call in
-      let rest = after_begun h.4.begun h.4.mid new h.4.rest in
+      let rest = after_begun key h.4.begun h.4.mid new h.4.rest in
       omega (arith, before, call, rest)
 
-  one_is_accepted : (servers : List SocketAddr) (calls : List (NetworkCall C)) → AcceptsThenConnects Called servers [] calls →
+  one_is_accepted : (servers : List SocketAddr) (key : ℕ) (calls : List (NetworkCall C)) → AcceptsThenConnects Called servers key [] calls →
       accepts_in calls ≡ 1
-  one_is_accepted servers calls h =
+  one_is_accepted servers key calls h =
       let call = after_call [] h.accepts.mid _ h.accepts.call in
       let rest = after_accepted h.accepts.accepted h.accepts.mid h.mid h.accepts.rest in
-      let connects = after_connects servers 0 h.count h.mid calls h.connects in
+      let connects = after_connects servers key 0 h.count h.mid calls h.connects in
       omega (arith, call, rest, connects)
 
-  first_address_is_first : (one two : SocketAddr) (calls : List (NetworkCall C)) →
-      ConnectsFrom Called (one ∷ two ∷ []) 0 1 [] calls →
-      (begun : Result C Error) × (mid : List (NetworkCall C)) × (mid ≡ BeginsConnect one begun ∷ []) × FollowsBegun Called begun mid calls
-  first_address_is_first one two calls h = (h.4.begun, h.4.mid, first, h.4.rest)
+  first_address_is_first : (one two : SocketAddr) (key : ℕ) (calls : List (NetworkCall C)) →
+      ConnectsFrom Called (one ∷ two ∷ []) key 0 1 [] calls →
+      (begun : Result C Error) × (mid : List (NetworkCall C)) × (mid ≡ BeginsConnect one begun ∷ []) × FollowsBegun Called key begun mid calls
+  first_address_is_first one two key calls h = (h.4.begun, h.4.mid, first, h.4.rest)
     where
       address : h.1 ≡ one
       address = let listed : Some one ≡ Some h.1 = h.3 in cc

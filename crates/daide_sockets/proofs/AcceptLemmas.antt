@@ -8,7 +8,7 @@ use Rattle.std.specs.declared.time.Instant.{Instant}
 use Rattle.daide_buffered_io.specs.declared.readiness.Readiness.{Readiness}
 use Rattle.daide_sockets.specs.declared.admission.Acceptor.{Acceptor}
 use Rattle.daide_sockets.specs.declared.listener.Listener.{Listener}
-use Rattle.daide_sockets.specs.Accepting.{is_accept_made, is_accept_due, is_bot_due, accept_pause, connection_given}
+use Rattle.daide_sockets.specs.Accepting.{is_accept_made, is_accept_due, is_bot_due, accept_pause, connection_given, shut_if}
 use Rattle.daide_sockets.specs.Accepting.{AcceptsOnce, AcceptsOneBot, BringsBot, BringsNoBot, FollowsAtMostOnce, FollowsAccepted, ConnectsOnce, ConnectsFrom}
 use Rattle.daide_sockets.specs.Accepting.{Fails, MayNotCome, IsRefused, TriesOn, IsUnreached, IsLate, TriedAll}
 use Rattle.daide_sockets.specs.Table.{Table, freed, listener_key, report_at, without_report}
@@ -58,6 +58,11 @@ no_bot_due old new key acceptor taken is none =
 
 -- ---- rows
 
+-- a listener that is closed loses no count of its bots
+pub kept_came : (closes : Bool) (new old : Acceptor) → new ≡ shut_if closes old → new.came ≡ old.came
+kept_came true new old e = ap (λ (a : Acceptor). a.came) e
+kept_came false new old e = ap (λ (a : Acceptor). a.came) e
+
 -- an accept changes the row of the listener alone
 pub listened : (old new : Table) (key : ℕ) → ChangesRows (λ row. row ≡ listener_key old) old new →
     ChangesRows (λ row. (row ≡ listener_key old) ⊎ (row ≡ key)) old new
@@ -92,11 +97,11 @@ module _ {N C : Type 0} (transition : N → NetworkCall C → N → Type 0) wher
   }
 
   -- one more connect, to the next address
-  pub connects_on : (addresses : List SocketAddr) (place tried count : ℕ) (address : SocketAddr) (old mid new : N) →
+  pub connects_on : (addresses : List SocketAddr) (key place tried count : ℕ) (address : SocketAddr) (old mid new : N) →
       tried ≡ place + count → slice_get addresses tried ≡ Some address →
-      ConnectsFrom transition addresses place count old mid → ConnectsOnce transition address mid new →
-      (more : ℕ) × (tried + 1 ≡ place + more) × ConnectsFrom transition addresses place more old new
-  connects_on addresses place tried count address old mid new at listed before once =
+      ConnectsFrom transition addresses key place count old mid → ConnectsOnce transition key address mid new →
+      (more : ℕ) × (tried + 1 ≡ place + more) × ConnectsFrom transition addresses key place more old new
+  connects_on addresses key place tried count address old mid new at listed before once =
       (suc count, omega (arith, at), (mid, address, before, rw at at listed, once))
 
   -- ---- an accept that brings a bot, or none
@@ -139,11 +144,11 @@ module _ {N C : Type 0} (transition : N → NetworkCall C → N → Type 0) wher
 
   -- ---- a connect that is given up
 
-  pub unreached : (addresses : List SocketAddr) (reading due : Option Instant) (before after : ℕ) (old new : N) →
-      (is_past reading due ≡ false → length addresses ≤ after) → TriesOn transition addresses before after old new →
-      IsUnreached transition addresses reading due before old new
-  unreached addresses reading due before after old new all tries = by (is_past reading due) refl
+  pub unreached : (addresses : List SocketAddr) (key : ℕ) (reading due : Option Instant) (before after : ℕ) (old new : N) →
+      (is_past reading due ≡ false → length addresses ≤ after) → TriesOn transition addresses key before after old new →
+      IsUnreached transition addresses key reading due before old new
+  unreached addresses key reading due before after old new all tries = by (is_past reading due) refl
     where
-      by : (late : Bool) → is_past reading due ≡ late → IsUnreached transition addresses reading due before old new
+      by : (late : Bool) → is_past reading due ≡ late → IsUnreached transition addresses key reading due before old new
       by true late = IsLate late
       by false early = TriedAll after (all early) tries

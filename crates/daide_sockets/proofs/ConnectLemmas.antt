@@ -1,13 +1,16 @@
 -- The result of a connect: its place rests, or its ports begin, or its bot is given up.
-use Rattle.std.proofs.Common.{◌≡◌, ℕ, ◌+◌, ◌*◌, ◌<◌, ◌≤◌, Bool, true, false, List, Option, Some, None, length, refl, sym, ap, ◌∙◌, subst, arith}
+use Rattle.std.proofs.Common.{◌≡◌, ℕ, ◌+◌, ◌*◌, ◌<◌, ◌≤◌, Bool, false, List, Option, Some, None, length, refl, sym, ap, ◌∙◌, subst, arith}
 use Rattle.std.proofs.Math.Nat.{min-eq_left}
 use Rattle.std.specs.Prelude.{◌||◌, IfSome, IsSome, min, option_map}
 use Rattle.daide_sockets.specs.declared.socket.Socket.{Socket}
+use Rattle.std.specs.declared.net.socket_addr.SocketAddr.{SocketAddr}
 use Rattle.std.specs.declared.time.Instant.{Instant}
 use Rattle.daide_frame.specs.declared.side.Side.{Side}
 use Rattle.daide_frame.specs.declared.side.Side.TheVariants.{Bot, Server}
 use Rattle.daide_buffered_io.specs.declared.readiness.Readiness.{Readiness}
-use Rattle.daide_sockets.specs.Accepting.{may_connect}
+use Rattle.daide_io.specs.Network.{NetworkCall}
+use Rattle.daide_io.specs.declared.system.Connect.TheVariants.{Ready}
+use Rattle.daide_sockets.specs.Accepting.{may_connect, AsksAtMostOnce, ConnectsFrom, HasConnected, TriesOn}
 use Rattle.daide_sockets.specs.KeptRows.{ChangesRows}
 use Rattle.daide_sockets.specs.Pairing.{Arriving, Paired, IsFresh, IsJoined, StaysPending, arrival_at}
 use Rattle.daide_sockets.specs.Scheduling.{RestsForConnect}
@@ -60,6 +63,28 @@ module _ {S : Type 0} where
         bot = joined.bot ∙ ap (λ (a : Arriving S). a.bot) same;
         server = sym (ap (λ (a : Arriving S). a.server) same) ∙ joined.server;
       }
+
+  -- the server of ports is the one whose connect succeeded
+  pub connected_to : {N : Type 0} (transition : N → NetworkCall S → N → Type 0) (old new : N) (later : Arriving S) (pair : Paired S) →
+      IfSome later.server (λ server. HasConnected transition server.stream old new) → IsJoined later pair →
+      HasConnected transition pair.server.stream old new
+  connected_to transition old new later pair h joined = rw joined.server at h
+
+pub ready_is : {P : Type 0} (one other : P) → Ready one ≡ Ready other → one ≡ other
+ready_is one other e = cc
+
+-- a look at a connect asks for its state, and then makes these connects
+pub tries_over : {N C : Type 0} (transition : N → NetworkCall C → N → Type 0) (addresses : List SocketAddr)
+    (key before after : ℕ) (old mid new : N) → AsksAtMostOnce transition old mid →
+    (count : ℕ) × (after ≡ before + count) × ConnectsFrom transition addresses key before count mid new →
+    TriesOn transition addresses key before after old new
+tries_over transition addresses key before after old mid new asks connects = record {
+  mid = mid;
+  asks = asks;
+  count = connects.0;
+  counted = connects.1;
+  connects = connects.2;
+}
 
 -- what was reported of a server is known of its socket
 pub connected_reports : (known : Option Readiness) (own report : Readiness) →

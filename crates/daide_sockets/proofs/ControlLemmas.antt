@@ -1,13 +1,15 @@
 -- The rows of the control socket: each place by its number, and the listener.
-use Rattle.std.proofs.Common.{◌≡◌, ℕ, ◌+◌, ◌*◌, ◌≤◌, ◌<◌, Bool, List, [], ◌∷◌, length, refl, sym, ap, ◌∙◌, subst, Option, arith}
+use Rattle.std.proofs.Common.{◌≡◌, ℕ, ◌+◌, ◌*◌, ◌<◌, List, [], ◌∷◌, length, refl, sym, ap, ◌∙◌, subst, Option, Some, None, arith}
 use Rattle.std.specs.declared.time.Instant.{Instant}
 use Rattle.daide_buffered_io.specs.declared.readiness.Readiness.{Readiness}
+use Rattle.daide_io.specs.Network.{NetworkCall}
 use Rattle.daide_io.specs.Streams.{StreamCall}
 use Rattle.daide_status.specs.declared.snapshot.RunStatus.{RunStatus}
-use Rattle.daide_sockets.specs.ControlSlots.{IsControlRow, PlaceAdvances, PlacesAdvance}
+use Rattle.daide_sockets.specs.ControlSlots.{AsksControl, IsControlRow, PlaceAdvances, PlacesAdvance, TakesPlace, is_listener_due}
 use Rattle.daide_sockets.specs.KeptRows.{ChangesRows}
 use Rattle.daide_sockets.specs.Table.{Table, control_connection_key, control_key, freed, merged, report_at, without_report}
 use Rattle.daide_sockets.specs.declared.control_connection.ControlConnection.{ControlConnection}
+use Rattle.daide_sockets.specs.declared.listener.Listener.{Listener}
 use Rattle.daide_sockets.proofs.KeptRowLemmas.{changes_more, changes_then, freed_changes, keeps_report, report_changes, same_deadlines, same_reading}
 
 -- a connection that took a report has that of its row
@@ -73,6 +75,17 @@ four_change one two three four five a b c d is_a is_b is_c is_d h k l m =
     wider old new key number few is change =
         changes_more (λ row. row ≡ key) Own old new (own_row one one key number few is refl) change
 
+-- what was reported of the listener stays, whatever is taken of the connections
+pub listener_stays : (one two three four five : Table) (a b c d : ℕ) → a ≡ 2 * length one.deadlines + 2 + 0 →
+    b ≡ 2 * length one.deadlines + 2 + 1 → c ≡ 2 * length one.deadlines + 2 + 2 → d ≡ 2 * length one.deadlines + 2 + 3 →
+    ChangesRows (λ row. row ≡ a) one two → ChangesRows (λ row. row ≡ b) two three → ChangesRows (λ row. row ≡ c) three four →
+    ChangesRows (λ row. row ≡ d) four five → report_at five (control_key one) ≡ report_at one (control_key one)
+listener_stays one two three four five a b c d is_a is_b is_c is_d h k l m =
+    keeps_report (λ row. row ≡ d) four five (control_key one) (λ own. absurd (omega (arith, is_d, own))) m
+    ∙ keeps_report (λ row. row ≡ c) three four (control_key one) (λ own. absurd (omega (arith, is_c, own))) l
+    ∙ keeps_report (λ row. row ≡ b) two three (control_key one) (λ own. absurd (omega (arith, is_b, own))) k
+    ∙ keeps_report (λ row. row ≡ a) one two (control_key one) (λ own. absurd (omega (arith, is_a, own))) h
+
 module _ {S : Type 0} (to_give taken : S → Option (List ℕ)) (calls : S → Option (List StreamCall)) (run : RunStatus) where
   abbrev Advance : Option Instant → Readiness → Option (ControlConnection S) → Option (ControlConnection S) → Type 0
   Advance = PlaceAdvances to_give taken calls run
@@ -114,3 +127,31 @@ module _ {S : Type 0} (to_give taken : S → Option (List ℕ)) (calls : S → O
       at table key number old new reading report is h =
           subst (λ (r : Readiness). Advance one.reading r old new) (report ∙ ap (λ (n : ℕ). report_at one n) is)
           (subst (λ (t : Option Instant). Advance t (report_at table key) old new) reading h)
+
+-- The listener is asked as by the table before the connections advanced: its row and the reading are the same.
+module _ {N S : Type 0} (transition : N → NetworkCall S → N → Type 0) (old mid : Table) (listener : Option Listener)
+    (network after : N) (before now : List (Option (ControlConnection S))) where
+  same_due : ChangesRows (IsControlRow old) old mid → report_at mid (control_key old) ≡ report_at old (control_key old) →
+      is_listener_due mid listener ≡ is_listener_due old listener
+  same_due h same = by listener
+    where
+      key : control_key mid ≡ control_key old
+      key = let count = count_of (IsControlRow old) old mid h in omega (arith, count)
+
+      by : (found : Option Listener) → is_listener_due mid found ≡ is_listener_due old found
+      by None = refl
+      by (Some one) = rw (same_reading (IsControlRow old) old mid h, key, same) refl
+
+  pub asked_before : ChangesRows (IsControlRow old) old mid → report_at mid (control_key old) ≡ report_at old (control_key old) →
+      AsksControl transition mid listener network after before now → AsksControl transition old listener network after before now
+  asked_before h same asks = record {
+    made = λ due room.
+        let made = asks.made (same_due h same ∙ due) room in (
+          made.0,
+          same_row old mid made.0 (count_of (IsControlRow old) old mid h) made.1,
+          made.2,
+          made.3,
+          subst (λ (reading : Option Instant). TakesPlace reading made.2 before now) (same_reading (IsControlRow old) old mid h) made.4,
+        );
+    not_made = λ no. asks.not_made (rw (same_due h same) no);
+  }

@@ -1,18 +1,17 @@
 -- Which rows a call changes, and what that keeps.
-use Rattle.std.proofs.Common.{◌≡◌, ℕ, zero, suc, ◌+◌, ◌*◌, ◌≤◌, ◌<◌, Bool, true, false, List, [], ◌∷◌, length, refl, sym, ap, ◌∙◌, arith}
-use Rattle.std.proofs.Common.{◌⊎◌, inl, inr, subst, Option, Some, None}
+use Rattle.std.proofs.Common.{◌≡◌, ℕ, zero, suc, ◌+◌, ◌≤◌, ◌<◌, Bool, true, false, List, [], ◌∷◌, length, refl, sym, ap, ◌∙◌, arith}
+use Rattle.std.proofs.Common.{◌⊎◌, inl, inr, subst, Option, None}
 use Rattle.std.specs.Prelude.{◌==◌, nat_lt, slice_get, slice_set}
 use Rattle.std.specs.declared.time.Instant.{Instant}
 use Rattle.daide_frame.specs.declared.side.Side.{Side}
 use Rattle.daide_frame.specs.declared.side.Side.TheVariants.{Bot, Server}
-use Rattle.daide_buffered_io.specs.declared.readiness.Readiness.{Readiness}
 use Rattle.daide_io.specs.ReadyQueue.{one_if, occurrences_of}
 use Rattle.daide_sockets.specs.KeptRows.{ChangesRows, IsAcceptRow, IsFixedRow, IsRowOf, KeepsReportsOf}
 use Rattle.daide_sockets.specs.Lingering.{ClosingStream}
 use Rattle.daide_sockets.specs.Rows.{AreRowsOf, KeepsClosingRows, closing_keys, taken_at}
 use Rattle.daide_sockets.specs.Table.{Table, changed, deadline_in, control_key, first_closing, forgotten, free_row, freed, key_of, listener_key, no_report, report_at, resting}
 use Rattle.daide_sockets.specs.Table.{row_at, without_report, without_reports}
-use Rattle.daide_sockets.specs.Wakeups.{KeepsPlace, KeepsOtherPlaces}
+use Rattle.daide_sockets.specs.Wakeups.{KeepsOtherPlaces}
 use Rattle.daide_sockets.specs.declared.table.Row.{Row}
 
 -- ---- one row

@@ -1,7 +1,6 @@
 -- Calls of the network, all of one kind.
 use Rattle.std.proofs.Common.{◌≡◌, ℕ, zero, suc, Bool, true, List, [], ◌∷◌, ◌++◌, refl, subst}
 use Rattle.std.proofs.Common.{inl, inr, Result, Ok, Err}
-use Rattle.std.specs.Prelude.{All}
 use Rattle.std.proofs.lemmas.List.Elements.{All-nil, All-cons, All-append}
 use Rattle.std.specs.declared.io.Error.{Error}
 use Rattle.std.specs.declared.net.socket_addr.SocketAddr.{SocketAddr}
@@ -37,24 +36,24 @@ module _ {N C : Type 0} (transition : N → NetworkCall C → N → Type 0) wher
     follows may connection old new (inr h) =
         one old new (Follows connection h.0 h.1 h.2) (may connection h.0 h.1 h.2) h.3
 
-  begun : (result : Result C Error) (old new : N) → FollowsBegun transition result old new →
+  begun : (key : ℕ) (result : Result C Error) (old new : N) → FollowsBegun transition key result old new →
       GoesBy is_of_connect transition old new
-  begun (Ok connection) old new h = follows is_of_connect (λ before key is_followed after. refl) connection old new h
-  begun (Err error) old new h = none is_of_connect old new h
+  begun key (Ok connection) old new h = one is_of_connect old new (Follows connection key h.0 h.1) refl h.2
+  begun key (Err error) old new h = none is_of_connect old new h
 
-  connects : (addresses : List SocketAddr) (place count : ℕ) (old new : N) →
-      ConnectsFrom transition addresses place count old new → GoesBy is_of_connect transition old new
-  connects addresses place zero old new h = none is_of_connect old new h
-  connects addresses place (suc count) old new h =
-      both is_of_connect old h.0 new (connects addresses place count old h.0 h.2)
+  connects : (addresses : List SocketAddr) (key place count : ℕ) (old new : N) →
+      ConnectsFrom transition addresses key place count old new → GoesBy is_of_connect transition old new
+  connects addresses key place zero old new h = none is_of_connect old new h
+  connects addresses key place (suc count) old new h =
+      both is_of_connect old h.0 new (connects addresses key place count old h.0 h.2)
       (both is_of_connect h.0 h.4.mid new (one is_of_connect h.0 h.4.mid (BeginsConnect h.1 h.4.begun) refl h.4.call)
-      (begun h.4.begun h.4.mid new h.4.rest))
+      (begun key h.4.begun h.4.mid new h.4.rest))
 
   asks : (old new : N) → AsksAtMostOnce transition old new → GoesBy is_of_connect transition old new
   asks old new (inl same) = none is_of_connect old new same
   asks old new (inr h) = one is_of_connect old new (AsksConnect h.0 h.1) refl h.2
 
-  pub tries : (addresses : List SocketAddr) (before after : ℕ) (old new : N) →
-      TriesOn transition addresses before after old new → GoesBy is_of_connect transition old new
-  tries addresses before after old new h =
-      both is_of_connect old h.mid new (asks old h.mid h.asks) (connects addresses before h.count h.mid new h.connects)
+  pub tries : (addresses : List SocketAddr) (key before after : ℕ) (old new : N) →
+      TriesOn transition addresses key before after old new → GoesBy is_of_connect transition old new
+  tries addresses key before after old new h =
+      both is_of_connect old h.mid new (asks old h.mid h.asks) (connects addresses key before h.count h.mid new h.connects)

@@ -1,13 +1,14 @@
 -- The condition for an accept, and the calls on the network of which it is one. (own)
 use Rattle.std.specs.Prelude.{◌≡◌, ◌≤◌, ◌⊎◌, ℕ, zero, suc, ◌+◌, ◌&&◌, ◌||◌, not, Bool, true, false, List, length}
-use Rattle.std.specs.Prelude.{Option, Some, None, Result, Ok, Err, slice_get}
+use Rattle.std.specs.Prelude.{Option, Some, None, Result, Ok, Err, slice_get, if◌then◌else◌}
 use Rattle.std.specs.declared.io.Error.{Error}
 use Rattle.std.specs.declared.io.ErrorKind.{ErrorKind}
 use Rattle.std.specs.declared.net.socket_addr.SocketAddr.{SocketAddr}
 use Rattle.std.specs.declared.io.ErrorKind.TheVariants as Kinds
 use Rattle.std.specs.declared.time.Instant.{Instant}
-use Rattle.daide_io.specs.Network.{NetworkCall, AcceptsConnection, BeginsConnect, AsksConnect, Follows}
+use Rattle.daide_io.specs.Network.{NetworkCall, AcceptsConnection, BeginsConnect, AsksConnect, Follows, StopsListening, connect_status}
 use Rattle.daide_io.specs.declared.network.ConnectReport.{ConnectReport}
+use Rattle.daide_io.specs.declared.network.ConnectStatus.TheVariants.{Connected}
 use Rattle.daide_buffered_io.specs.declared.readiness.Readiness.{Readiness}
 use Rattle.daide_sockets.specs.declared.admission.Acceptor.{Acceptor}
 use Rattle.daide_sockets.specs.declared.listener.Listener.{Listener}
@@ -39,10 +40,35 @@ abbrev pub is_bot_due : Table → Acceptor → Bool
 is_bot_due table acceptor =
     not acceptor.is_closed && is_accept_due table (listener_key table) acceptor.listener
 
+-- a listener once the end of its pause is past at this reading of the clock: then an accept may give a connection
+abbrev pub resumed : Option Instant → Listener → Listener
+resumed now listener =
+    if is_past now listener.resumes_at then record { may_accept = true; resumes_at = None } else listener
+
+-- the acceptor as a round begins: it was not asked for a bot yet, and a pause whose end is past is over
+abbrev pub round_begun : Option Instant → Acceptor → Acceptor
+round_begun now acceptor = record acceptor { awaits_bots = false; listener = resumed now acceptor.listener }
+
+-- the acceptor once its listener is closed
+abbrev pub shut : Acceptor → Acceptor
+shut acceptor = record acceptor {
+  awaits_bots = false;
+  is_closed = true;
+  listener = record acceptor.listener { resumes_at = None };
+}
+
+-- the acceptor after its listener was closed, or was not
+abbrev pub shut_if : Bool → Acceptor → Acceptor
+shut_if closes acceptor = if closes then shut acceptor else acceptor
+
 -- the connection that an accept gave, with its peer's address, if it gave one
 abbrev pub connection_given : {C : Type 0} → Result (C × SocketAddr) Error → Option (C × SocketAddr)
 connection_given (Ok came) = Some came
 connection_given (Err error) = None
+
+-- the listener for bots was closed, or no call was made
+abbrev pub ClosesOrNot : {N C : Type 0} → (N → NetworkCall C → N → Type 0) → N → N → Type 0
+ClosesOrNot transition old new = (new ≡ old) ⊎ transition old StopsListening new
 
 -- exactly one call was made, an accept, and what it gave is returned
 pub record AcceptsOnce {N C : Type 0} (transition : N → NetworkCall C → N → Type 0) (old new : N)
@@ -69,25 +95,27 @@ pub record AcceptsOneBot {N C : Type 0} (transition : N → NetworkCall C → N 
   pub call : transition old (AcceptsConnection accepted) mid
   pub rest : FollowsAccepted transition accepted mid new
 
--- no call was made but one by which the connection is followed that a connect began
-abbrev pub FollowsBegun : {N C : Type 0} → (N → NetworkCall C → N → Type 0) → Result C Error → N → N → Type 0
-FollowsBegun transition (Ok connection) old new = FollowsAtMostOnce transition connection old new
-FollowsBegun transition (Err error) old new = new ≡ old
+-- the connection that a connect began is followed under this key, or the system refused; without one no call was made
+abbrev pub FollowsBegun : {N C : Type 0} → (N → NetworkCall C → N → Type 0) → ℕ → Result C Error → N → N → Type 0
+FollowsBegun {C = C} transition key (Ok connection) old new =
+    (is_followed : Bool) × (after : C) × transition old (Follows connection key is_followed after) new
+FollowsBegun transition key (Err error) old new = new ≡ old
 
--- one connect was made to this address, and then no call but one by which its connection is followed
-pub record ConnectsOnce {N C : Type 0} (transition : N → NetworkCall C → N → Type 0) (address : SocketAddr) (old new : N) :
-    Type 0 where
+-- one connect was made to this address, and then one call by which its connection is followed under this key
+pub record ConnectsOnce {N C : Type 0} (transition : N → NetworkCall C → N → Type 0) (key : ℕ) (address : SocketAddr)
+    (old new : N) : Type 0 where
   pub begun : Result C Error
   pub mid : N
   pub call : transition old (BeginsConnect address begun) mid
-  pub rest : FollowsBegun transition begun mid new
+  pub rest : FollowsBegun transition key begun mid new
 
--- one connect was made to each of the first `count` addresses from this place on, in their order, and nothing else
-abbrev pub ConnectsFrom : {N C : Type 0} → (N → NetworkCall C → N → Type 0) → List SocketAddr → ℕ → ℕ → N → N → Type 0
-ConnectsFrom transition addresses place zero old new = new ≡ old
-ConnectsFrom {N = N} transition addresses place (suc count) old new = (mid : N) × (address : SocketAddr)
-    × ConnectsFrom transition addresses place count old mid
-    × (slice_get addresses (place + count) ≡ Some address) × ConnectsOnce transition address mid new
+-- One connect was made to each of the first `count` addresses from this place on, in their order, each followed under this
+-- key, and nothing else.
+abbrev pub ConnectsFrom : {N C : Type 0} → (N → NetworkCall C → N → Type 0) → List SocketAddr → ℕ → ℕ → ℕ → N → N → Type 0
+ConnectsFrom transition addresses key place zero old new = new ≡ old
+ConnectsFrom {N = N} transition addresses key place (suc count) old new = (mid : N) × (address : SocketAddr)
+    × ConnectsFrom transition addresses key place count old mid
+    × (slice_get addresses (place + count) ≡ Some address) × ConnectsOnce transition key address mid new
 
 -- A connect may have a result if its socket is writable by what is known of it, or by the report of its row. One that did
 -- not begin has failed.
@@ -100,32 +128,37 @@ abbrev pub AsksAtMostOnce : {N C : Type 0} → (N → NetworkCall C → N → Ty
 AsksAtMostOnce {C = C} transition old new =
     (new ≡ old) ⊎ (connection : C) × (report : ConnectReport) × transition old (AsksConnect connection report) new
 
+-- the network was asked for the state of the connect of this connection, and reported that it succeeded
+abbrev pub HasConnected : {N C : Type 0} → (N → NetworkCall C → N → Type 0) → C → N → N → Type 0
+HasConnected transition connection old new = (report : ConnectReport) × transition old (AsksConnect connection report) new
+    × (connect_status report.failure report.has_peer ≡ Connected)
+
 -- A look at a connect, of whose addresses the first `before` were tried: its state is asked at most once, and then connects are
 -- made to the next addresses, up to the first `after`.
-pub record TriesOn {N C : Type 0} (transition : N → NetworkCall C → N → Type 0) (addresses : List SocketAddr) (before after : ℕ)
-    (old new : N) : Type 0 where
+pub record TriesOn {N C : Type 0} (transition : N → NetworkCall C → N → Type 0) (addresses : List SocketAddr)
+    (key before after : ℕ) (old new : N) : Type 0 where
   pub mid : N
   pub asks : AsksAtMostOnce transition old mid
   pub count : ℕ
   pub counted : after ≡ before + count
-  pub connects : ConnectsFrom transition addresses before count mid new
+  pub connects : ConnectsFrom transition addresses key before count mid new
 
 -- The deadline of a connect is past at this reading, or each of the addresses was tried: the first `before` of them
 -- earlier, and the others now.
-pub data IsUnreached {N C : Type 0} (transition : N → NetworkCall C → N → Type 0) (addresses : List SocketAddr)
+pub data IsUnreached {N C : Type 0} (transition : N → NetworkCall C → N → Type 0) (addresses : List SocketAddr) (key : ℕ)
     (reading due : Option Instant) (before : ℕ) (old new : N) : Type 0 where
-  IsLate : is_past reading due ≡ true → IsUnreached transition addresses reading due before old new
-  TriedAll : (after : ℕ) → length addresses ≤ after → TriesOn transition addresses before after old new →
-      IsUnreached transition addresses reading due before old new
+  IsLate : is_past reading due ≡ true → IsUnreached transition addresses key reading due before old new
+  TriedAll : (after : ℕ) → length addresses ≤ after → TriesOn transition addresses key before after old new →
+      IsUnreached transition addresses key reading due before old new
 
 -- One accept was made, its connection was followed, and then connects were made to some of these addresses, from the first
--- on. So no other bot was accepted, by whichever call.
+-- on, each followed under this key. So no other bot was accepted, by whichever call.
 pub record AcceptsThenConnects {N C : Type 0} (transition : N → NetworkCall C → N → Type 0) (addresses : List SocketAddr)
-    (old new : N) : Type 0 where
+    (key : ℕ) (old new : N) : Type 0 where
   pub mid : N
   pub accepts : AcceptsOneBot transition old mid
   pub count : ℕ
-  pub connects : ConnectsFrom transition addresses 0 count mid new
+  pub connects : ConnectsFrom transition addresses key 0 count mid new
 
 -- One accept was made, which gave a connection with this address, and then one call by which that connection is followed under
 -- this key, as this one. So the bot of this connection has the address that the network returned.

@@ -1,7 +1,7 @@
 -- The control connections of a run together: at most four. (own)
-use Rattle.std.specs.Prelude.{◌≡◌, ◌⊎◌, ℕ, ◌+◌, ◌<◌, Bool, true, false, ◌||◌, List, [], ◌∷◌, Option, Some, None, if◌then◌else◌}
+use Rattle.std.specs.Prelude.{◌≡◌, ℕ, ◌+◌, ◌<◌, Bool, true, false, ◌||◌, List, [], ◌∷◌, Option, Some, None, if◌then◌else◌}
 use Rattle.std.specs.declared.time.Instant.{Instant}
-use Rattle.daide_io.specs.Network.{NetworkCall, AcceptsControl}
+use Rattle.daide_io.specs.Network.{NetworkCall, AcceptsControl, Follows}
 use Rattle.daide_io.specs.Streams.{StreamCall}
 use Rattle.daide_io.specs.declared.system.Orders.{Orders}
 use Rattle.daide_buffered_io.specs.declared.readiness.Readiness.{Readiness}
@@ -16,7 +16,7 @@ use Rattle.daide_sockets.specs.declared.control.Slots.{Slots}
 use Rattle.daide_sockets.specs.declared.control_connection.ControlConnection.{ControlConnection}
 use Rattle.daide_sockets.specs.declared.listener.Listener.{Listener}
 use Rattle.daide_sockets.specs.declared.control_connection.Stage.TheVariants.{Reads}
-use Rattle.std.specs.Prelude.{Result}
+use Rattle.std.specs.Prelude.{◌&&◌, Ok, Err}
 use Rattle.std.specs.declared.io.Error.{Error}
 
 -- the four places, each with a connection or free
@@ -93,12 +93,6 @@ with_one connection [] = []
 with_one connection (None ∷ rest) = Some connection ∷ rest
 with_one connection (Some other ∷ rest) = Some other ∷ with_one connection rest
 
--- All places are unchanged, or one that was free has a connection that was just accepted.
-abbrev pub AcceptsOne : {S : Type 0} → Option Instant → List (Option (ControlConnection S)) →
-    List (Option (ControlConnection S)) → Type 0
-AcceptsOne {S} reading old new = (new ≡ old)
-    ⊎ ((connection : ControlConnection S) × (has_free old ≡ true) × IsAccepted reading connection × (new ≡ with_one connection old))
-
 -- the next poll is also to watch the connection of a place
 abbrev pub arming_place : {S : Type 0} → Table → Option (ControlConnection S) → Table
 arming_place table None = table
@@ -124,27 +118,49 @@ abbrev pub is_listener_due : Table → Option Listener → Bool
 is_listener_due table None = false
 is_listener_due table (Some listener) = is_control_due table listener
 
+-- What one accept of a control connection brings: none if it failed. Otherwise the connection that it gave is followed under
+-- this key, and comes unless the system refuses.
+pub data BringsControl {N C : Type 0} (transition : N → NetworkCall C → N → Type 0) (key : ℕ) (old new : N) (came : Option C) :
+    Type 0 where
+  Fails : (error : Error) → transition old (AcceptsControl (Err error)) new → came ≡ None →
+      BringsControl transition key old new came
+  IsFollowed : (given after : C) (mid : N) → transition old (AcceptsControl (Ok given)) mid →
+      transition mid (Follows given key true after) new → came ≡ Some after → BringsControl transition key old new came
+  IsRefused : (given after : C) (mid : N) → transition old (AcceptsControl (Ok given)) mid →
+      transition mid (Follows given key false after) new → came ≡ None → BringsControl transition key old new came
+
+-- the connection that an accept brought is at the first place that was free; without one all places are unchanged
+abbrev pub TakesPlace : {S : Type 0} → Option Instant → Option S → List (Option (ControlConnection S)) →
+    List (Option (ControlConnection S)) → Type 0
+TakesPlace reading None old new = new ≡ old
+TakesPlace {S} reading (Some stream) old new = (connection : ControlConnection S) × (connection.stream ≡ stream)
+    × IsAccepted reading connection × (new ≡ with_one connection old)
+
+-- The listener for control connections is asked for one: exactly one accept is made if it is due and a place is free, and what
+-- it brings takes that place. Otherwise no call is made.
+pub record AsksControl {N S : Type 0} (transition : N → NetworkCall S → N → Type 0) (table : Table) (listener : Option Listener)
+    (old new : N) (before after : List (Option (ControlConnection S))) : Type 0 where
+  pub made : is_listener_due table listener ≡ true → has_free before ≡ true → (key : ℕ) × IsControlRow table key
+      × (came : Option S) × BringsControl transition key old new came × TakesPlace table.reading came before after
+  pub not_made : (has_free before && is_listener_due table listener) ≡ false → (new ≡ old) × (after ≡ before)
+
 -- the next poll is also to watch the control socket: its listener, and each connection
 abbrev pub arming_control : {S : Type 0} → Table → Control S → Table
 arming_control table control =
     arming_places (arming_listener table (has_free (places control.slots)) control.listener) (places control.slots)
 
--- A round of the control socket, with the status of the run and the table at its beginning. Each connection advances, and
--- then at most one is accepted. A stop is ordered from the round on in which a connection requests it, and stays so. Sessions are shown if a connection gathers a status.
-pub record BeginsRound {S : Type 0} (to_give taken : S → Option (List ℕ)) (calls : S → Option (List StreamCall))
-    (run : RunStatus) (table : Table) (old : Control S) (orders : Orders) (new : Control S) : Type 0 where
+-- A round of the control socket over a network, with the status of the run and the table at its beginning. Each connection
+-- advances, and then one is accepted, if that is due and a place is free. A stop is ordered from the round on in which a
+-- connection requests it, and stays so. Sessions are shown if a connection gathers a status.
+pub record BeginsRound {N S : Type 0} (transition : N → NetworkCall S → N → Type 0) (to_give taken : S → Option (List ℕ))
+    (calls : S → Option (List StreamCall)) (run : RunStatus) (table : Table) (network : N) (old : Control S) (orders : Orders)
+    (after : N) (new : Control S) : Type 0 where
   pub mid : List (Option (ControlConnection S))
   pub advances : PlacesAdvance to_give taken calls run table (places old.slots) mid
-  pub accepts : AcceptsOne table.reading mid (places new.slots)
+  pub accepts : AsksControl transition table old.listener network after mid (places new.slots)
   pub stops : new.stops_accepting ≡ (old.stops_accepting || at_some (λ connection. stops_at connection.stage) (places new.slots))
   pub at_once : new.stops_now ≡ (old.stops_now || at_some (λ connection. stops_now_at connection.stage) (places new.slots))
   pub returned : orders ≡ record {
     stops_accepting = new.stops_accepting;
     shows_sessions = at_some (λ connection. gathers_at connection.stage) (places new.slots);
   }
-
--- an accept of a control connection was made
-pub record MakesControlAccept {N C : Type 0} (transition : N → NetworkCall C → N → Type 0) (old : N) : Type 0 where
-  pub accepted : Result C Error
-  pub mid : N
-  pub call : transition old (AcceptsControl accepted) mid

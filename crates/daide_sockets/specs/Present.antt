@@ -55,7 +55,7 @@ pub record AdmitsBot {N C : Type 0} (transition : N → NetworkCall C → N → 
   pub arrival : Arriving C
   pub mid : N
   pub brings : BringsBot transition address (key_of place Sides.Bot) arrival.bot.stream old.0 mid
-  pub connects : ConnectsFrom transition servers 0 arrival.tried mid new.0
+  pub connects : ConnectsFrom transition servers (key_of place Sides.Server) 0 arrival.tried mid new.0
   pub arrivals : new.1 ≡ slice_set old.1 place (Some arrival)
   pub identity : arrival.identity ≡ bot_from number address reading
   pub may : may_come rules.0 rules.1 (hosts_of old.2.bots.items) (host_of (socket_ip address)) ≡ true

@@ -11,7 +11,7 @@ use Rattle.daide_io.specs.declared.system.Connect.TheVariants.{Ready, Failed, Pe
 use Rattle.daide_buffered_io.specs.Buffers.{Buffer}
 use Rattle.daide_sockets.specs.declared.admission.Acceptor.{Acceptor}
 use Rattle.daide_sockets.specs.declared.ports.SocketPorts.{SocketPorts}
-use Rattle.daide_sockets.specs.Accepting.{is_bot_due, may_connect, AcceptsThenConnects}
+use Rattle.daide_sockets.specs.Accepting.{is_bot_due, may_connect, round_begun, shut_if, AcceptsThenConnects}
 use Rattle.daide_sockets.specs.PollTimes.{listener_armed, others_armed}
 use Rattle.daide_sockets.specs.Lingering.{ClosingList, LooksAround, in_pass}
 use Rattle.daide_sockets.specs.Pairing.{Arriving, Paired, RunSockets, is_vacant, arrival_at, ClosesAt, ClosesBothAt, Transits}
@@ -76,7 +76,7 @@ HasRoomForBot state place = (place < length state.table.deadlines) × (is_vacant
 pub record AsksListener {N C S : Type 0} (transition : N → NetworkCall C → N → Type 0) (old : RunState N S) (place : ℕ)
     (new : RunState N S) : Type 0 where
   pub made : HasRoomForBot old place → is_bot_due old.table old.acceptor ≡ true →
-      (servers : List SocketAddr) × AcceptsThenConnects transition servers old.network new.network
+      (servers : List SocketAddr) × AcceptsThenConnects transition servers (key_of place Server) old.network new.network
   pub not_made : (HasRoomForBot old place → is_bot_due old.table old.acceptor ≡ false) → new.network ≡ old.network
   pub awaited : new.acceptor.awaits_bots ≡ true
 
@@ -108,12 +108,13 @@ PollsForRun transition may_block woken old new = PollsForPlaces transition
     old.network old.table new.network new.table
 
 -- What a system call schedules. The timeouts of the run never change, and each session begins with them. A poll watches the
--- listener and each closing stream. The listener is asked for a bot whenever one may be accepted. A pending connect has its
--- place rest.
+-- listener and each closing stream; by its reading of the clock a pause of the listener may be over, and the listener is closed or
+-- not. The listener is asked for a bot whenever one may be accepted. A pending connect has its place rest.
 abbrev pub Schedules : {N C P S : Type 0} → (N → NetworkCall C → N → Type 0) → (P → SessionTimers S) → RunState N S →
     SystemCall P → RunState N S → Type 0
 Schedules transition timers old (Polls may_block woken orders) new =
     SameTimes old new × PollsForRun transition may_block woken old new
+    × (closes : Bool) × (new.acceptor ≡ shut_if closes (round_begun new.table.reading old.acceptor))
 Schedules transition timers old (Accepts place came) new = SameTimes old new × AsksListener transition old place new
 Schedules transition timers old (Connects place (Ready ports)) new =
     SameSchedule old new × BeginsAt old.table.reading old.times (timers ports)

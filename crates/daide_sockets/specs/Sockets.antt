@@ -1,9 +1,7 @@
 -- What a session's sockets know: their readiness, their deadlines, and what they may do at once. (own)
-use Rattle.std.specs.Prelude.{ℕ, Bool, true, false, ◌||◌, ◌&&◌, not, List, [], ◌∷◌, Option, None, if◌then◌else◌}
-use Rattle.std.specs.declared.time.Instant.{Instant}
+use Rattle.std.specs.Prelude.{ℕ, Bool, true, false, ◌||◌, ◌&&◌, not, List, [], ◌∷◌}
 use Rattle.daide_buffered_io.specs.Buffers.{Buffer}
 use Rattle.daide_buffered_io.specs.declared.readiness.Readiness.{Readiness}
-use Rattle.daide_sockets.specs.Clock.{earlier, is_past}
 
 -- the readiness of a socket that is read once more in any case, if that is so
 abbrev pub read_if : Bool → Readiness → Readiness

@@ -7,11 +7,11 @@ ghost use Rattle.std.specs.Duration.{as_nanos};
 ghost use Rattle.std.specs.Net.Socket.{socket_ip};
 ghost use Rattle.std.specs.Prelude.{◌≡◌, ◌⊎◌, ℕ, ◌+◌, ◌<◌, ◌≤◌, ◌++◌, ◌∷◌, [], Some, None, Err, true, false, IfOk, IfErr, IfSome, IfNone, IsSome, length};
 ghost use Rattle.daide_buffered_io.specs.Buffers.{Buffer};
-ghost use Rattle.daide_io.specs.Network.{AsksConnect, Listens, StopsListening, status_of};
+ghost use Rattle.daide_io.specs.Network.{AsksConnect, Listens, StopsListening, connect_status};
 ghost use Rattle.daide_io.specs.declared.network.ConnectReport.{ConnectReport};
 ghost use Rattle.daide_settings.specs.Ranges.{host_of, may_come};
-ghost use Rattle.daide_sockets.specs.Accepting.{is_bot_due, may_connect, AcceptsOnce, AcceptsOneBot, BringsBot};
-ghost use Rattle.daide_sockets.specs.Accepting.{AsksAtMostOnce, BringsNoBot, ConnectsFrom, TriesOn, GivesConnection, Pauses};
+ghost use Rattle.daide_sockets.specs.Accepting.{is_bot_due, may_connect, round_begun, shut, AcceptsOnce, AcceptsOneBot, BringsBot};
+ghost use Rattle.daide_sockets.specs.Accepting.{AsksAtMostOnce, BringsNoBot, ConnectsFrom, HasConnected, TriesOn, GivesConnection, Pauses};
 ghost use Rattle.daide_sockets.specs.PollTimes.{listener_armed};
 ghost use Rattle.daide_sockets.specs.KeptRows.{ChangesRows};
 ghost use Rattle.daide_sockets.specs.Pairing.{ConnectsTo, StaysPending, IsFreshConnect, IsFresh, IsJoined, pending_connects};
@@ -72,12 +72,7 @@ impl Acceptor {
     /// Begins a round, in which it was not asked for a bot yet. Ends the pause after a failed accept, if its time is over
     /// at this reading of the clock.
     pub(crate) fn begin_round(&mut self, now: Option<Instant>)
-        ensures over { is_past now self.old.listener.resumes_at ≡ true →
-            self.new.listener ≡ record { may_accept = true; resumes_at = None } }
-        ensures goes_on { is_past now self.old.listener.resumes_at ≡ false →
-            self.new ≡ record self.old { awaits_bots = false } }
-        ensures unasked { self.new.awaits_bots ≡ false }
-        ensures came { self.new.came ≡ self.old.came }
+        ensures { self.new ≡ round_begun now self.old }
     {
         self.awaits_bots = false;
         self.listener.end_pause(now);
@@ -102,9 +97,7 @@ impl Acceptor {
 
     /// Closes the listener: no bot is accepted any more, and no poll is for one.
     pub(crate) fn close<N: Network>(&mut self, poller: &mut Poller<N>)
-        ensures came { self.new.came ≡ self.old.came }
-        ensures none { (self.new.awaits_bots ≡ false) × (self.new.listener.resumes_at ≡ None) }
-        ensures closed { self.new.is_closed ≡ true }
+        ensures shut { self.new ≡ shut self.old }
         ensures table { poller.new.table ≡ poller.old.table }
         ensures closes { N.transition poller.old.network StopsListening poller.new.network }
     {
@@ -339,7 +332,7 @@ fn begun<N: Network>(
 ) -> Option<N::Connection>
     ensures connects { IfSome result (λ begun. ConnectsTo N.transition servers.now begun key poller.new.network) }
     ensures calls { (count : ℕ) × (tried.new ≡ tried.old + count)
-        × ConnectsFrom N.transition servers.now tried.old count poller.old.network poller.new.network }
+        × ConnectsFrom N.transition servers.now key tried.old count poller.old.network poller.new.network }
     ensures all { IfNone result (length servers.now ≤ tried.new) }
     ensures unknown { IfSome result (λ _. (report_at poller.new.table key).may_write ≡ false) }
     ensures table { ChangesRows (λ row. row ≡ key) poller.old.table poller.new.table }
@@ -387,7 +380,7 @@ impl<'w, S: Duplex + Drop> PendingConnection<'w, S> {
         ensures identity { result.identity ≡ came.entry.0 }
         ensures bot { result.bot ≡ came.entry.1.stream }
         ensures server { IsFreshConnect result.server }
-        ensures calls { ConnectsFrom N.transition servers.now 0 result.tried poller.old.network poller.new.network }
+        ensures calls { ConnectsFrom N.transition servers.now key 0 result.tried poller.old.network poller.new.network }
         ensures all { result.server ≡ None → length servers.now ≤ result.tried }
         ensures table { ChangesRows (λ row. row ≡ key) poller.old.table poller.new.table }
         ensures im_due { IsAfter poller.old.table.reading (as_nanos times.0) result.im_due }
@@ -430,11 +423,13 @@ impl<'w, S: Duplex + Drop> PendingConnection<'w, S> {
         ensures asked { may_connect poller.old.table key self.old.known ≡ true → (server : Buffer S) →
             self.old.server ≡ Some server →
             (report : ConnectReport) × N.transition poller.old.network (AsksConnect server.stream report) poller.new.network
-            × (result ≡ status_of report.failure report.has_peer) }
+            × (result ≡ connect_status report.failure report.has_peer) }
         ensures still { result ≡ ConnectStatus.Pending → may_connect poller.new.table key self.new.known ≡ false }
         ensures reported { result ≡ ConnectStatus.Connected → IfSome self.new.known (λ known.
             merged known (report_at poller.old.table key) ≡ known) }
         ensures calls { AsksAtMostOnce N.transition poller.old.network poller.new.network }
+        ensures connected { result ≡ ConnectStatus.Connected → IfSome self.old.server (λ server.
+            HasConnected N.transition server.stream poller.old.network poller.new.network) }
         ensures none { self.old.server ≡ None → result ≡ ConnectStatus.Failed }
         ensures rest { self.new ≡ record self.old { known = self.new.known } }
         ensures table { ChangesRows (λ row. row ≡ key) poller.old.table poller.new.table }
@@ -464,7 +459,7 @@ impl<'w, S: Duplex + Drop> PendingConnection<'w, S> {
     )
         ensures goes_on { StaysPending self.old self.new }
         ensures calls { (count : ℕ) × (self.new.tried ≡ self.old.tried + count)
-            × ConnectsFrom N.transition servers.now self.old.tried count poller.old.network poller.new.network }
+            × ConnectsFrom N.transition servers.now key self.old.tried count poller.old.network poller.new.network }
         ensures all { self.new.server ≡ None → length servers.now ≤ self.new.tried }
         ensures still { IsSome self.new.server → may_connect poller.new.table key self.new.known ≡ false }
         ensures table { ChangesRows (λ row. row ≡ key) poller.old.table poller.new.table }
@@ -507,6 +502,8 @@ impl<'w, S: Duplex + Drop> PendingConnection<'w, S> {
     /// `still`: while it is under way it has no result until the next report.
     ///
     /// `reported`: once it is not, what was reported is known of a socket that is connected.
+    ///
+    /// `connected`: the server is reached only if the network reports that its connect succeeded.
     pub(crate) fn advances<N: Network<Connection = S>>(
         &mut self,
         poller: &mut Poller<N>,
@@ -517,11 +514,13 @@ impl<'w, S: Duplex + Drop> PendingConnection<'w, S> {
         ensures reached { result ≡ false → IsSome self.new.server → self.new ≡ record self.old { known = self.new.known } }
         ensures reported { result ≡ false → IfSome self.new.known (λ known.
             merged known (report_at poller.old.table key) ≡ known) }
+        ensures connected { result ≡ false → IfSome self.new.server (λ server.
+            HasConnected N.transition server.stream poller.old.network poller.new.network) }
         ensures still { result ≡ true → may_connect poller.new.table key self.new.known ≡ false }
         ensures late { result ≡ true → is_past poller.old.table.reading self.old.gives_up ≡ false }
         ensures early { result ≡ false → is_past poller.old.table.reading self.old.gives_up ≡ false →
             may_connect poller.old.table key self.old.known ≡ true }
-        ensures tries { TriesOn N.transition servers.now self.old.tried self.new.tried poller.old.network
+        ensures tries { TriesOn N.transition servers.now key self.old.tried self.new.tried poller.old.network
             poller.new.network }
         ensures all { is_past poller.old.table.reading self.old.gives_up ≡ false → self.new.server ≡ None →
             length servers.now ≤ self.new.tried }

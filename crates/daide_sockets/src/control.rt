@@ -8,7 +8,7 @@ ghost use Rattle.daide_sockets.specs.Snapshot.{seconds_between, or_zero};
 ghost use Rattle.daide_sockets.specs.Control.{gathers_at, stops_at, stops_now_at};
 ghost use Rattle.daide_sockets.specs.ControlSlots.{places, Each, at_some, IsControlRow, PlaceAdvances, PlacesAdvance, PlaceShows};
 ghost use Rattle.daide_sockets.specs.ControlSlots.{at_place, has_free, is_control_due, with_one, arming_place, arming_places};
-ghost use Rattle.daide_sockets.specs.ControlSlots.{MakesControlAccept, AcceptsOne, arming_control, BeginsRound};
+ghost use Rattle.daide_sockets.specs.ControlSlots.{AsksControl, BringsControl, arming_control, BeginsRound};
 ghost use Rattle.daide_sockets.specs.ControlSlots.{is_listener_due};
 ghost use Rattle.daide_sockets.specs.KeptRows.{ChangesRows};
 ghost use Rattle.daide_sockets.specs.Table.{Table, control_key, report_at};
@@ -130,6 +130,7 @@ impl<S: Duplex + Drop> Slots<S> {
     fn advance(&mut self, table: &mut SocketTable, alloc: Global, run: &RunStatus)
         ensures advances { PlacesAdvance S.to_give S.taken S.calls run.now table.old (places self.old) (places self.new) }
         ensures table { ChangesRows (IsControlRow table.old) table.old table.new }
+        ensures listener { report_at table.new (control_key table.old) ≡ report_at table.old (control_key table.old) }
     {
         let first = table.control_connection_key(0);
         let second = table.control_connection_key(1);
@@ -247,7 +248,8 @@ fn accept_from<N: Network>(
     key: usize,
 ) -> Option<N::Connection>
     requires { IsControlRow poller.old.table key }
-    ensures made { is_control_due poller.old.table listener.old ≡ true → MakesControlAccept N.transition poller.old.network }
+    ensures made { is_control_due poller.old.table listener.old ≡ true →
+        BringsControl N.transition key poller.old.network poller.new.network result }
     ensures not_made { is_control_due poller.old.table listener.old ≡ false →
         (result ≡ None) × (listener.new ≡ listener.old) × (poller.new ≡ poller.old) }
     ensures calls { GoesBy is_after_poll N.transition poller.old.network poller.new.network }
@@ -331,7 +333,8 @@ impl<S: Duplex + Drop> Control<S> {
 
     /// Accepts a connection, if a place is free and one waits.
     fn accept<N: Network<Connection = S>>(&mut self, poller: &mut Poller<N>)
-        ensures accepts { AcceptsOne poller.old.table.reading (places self.old.slots) (places self.new.slots) }
+        ensures accepts { AsksControl N.transition poller.old.table self.old.listener poller.old.network poller.new.network
+            (places self.old.slots) (places self.new.slots) }
         ensures same { (self.new.stops_accepting ≡ self.old.stops_accepting) × (self.new.stops_now ≡ self.old.stops_now)
             × (self.new.started_at ≡ self.old.started_at) }
         ensures calls { GoesBy is_after_poll N.transition poller.old.network poller.new.network }
@@ -379,10 +382,11 @@ impl<S: Duplex + Drop> Control<S> {
     }
 
     /// Returns the orders of a round in which there is no connection, and none is accepted. They need no status of the run.
-    pub(crate) fn orders_at_rest(&self) -> Orders
-        requires { places self.now.slots ≡ None ∷ None ∷ None ∷ None ∷ [] }
-        ensures control { (run : RunStatus) (table : Table) →
-            BeginsRound S.to_give S.taken S.calls run table self.now result self.now }
+    pub(crate) fn orders_at_rest<N: Network<Connection = S>>(&self, poller: &Poller<N>) -> Orders
+        requires free { places self.now.slots ≡ None ∷ None ∷ None ∷ None ∷ [] }
+        requires not_due { is_listener_due poller.now.table self.now.listener ≡ false }
+        ensures control { (run : RunStatus) → BeginsRound N.transition S.to_give S.taken S.calls run poller.now.table
+            poller.now.network self.now result poller.now.network self.now }
         ensures stops { result.stops_accepting ≡ self.now.stops_accepting }
     {
         Orders {
@@ -393,15 +397,16 @@ impl<S: Duplex + Drop> Control<S> {
 
     /// Begins a round by the table, with the status of the run, and returns the operator's orders.
     ///
-    /// `control`: each connection is read or written once, and then at most one is accepted, to a free place. A stop is
-    /// ordered from the round on in which a connection requests it, and stays so. Sessions are shown if a connection
-    /// gathers a status (`BeginsRound`).
+    /// `control`: each connection is read or written once. Then exactly one is accepted if that is due and a place is free, which
+    /// it takes, followed by the network. A stop is ordered from the round on in which a connection requests it, and stays so.
+    /// Sessions are shown if a connection gathers a status (`BeginsRound`).
     pub(crate) fn begin_round<N: Network<Connection = S>>(
         &mut self,
         poller: &mut Poller<N>,
         run: &RunStatus,
     ) -> Orders
-        ensures control { BeginsRound S.to_give S.taken S.calls run.now poller.old.table self.old result self.new }
+        ensures control { BeginsRound N.transition S.to_give S.taken S.calls run.now poller.old.table poller.old.network self.old
+            result poller.new.network self.new }
         ensures calls { GoesBy is_after_poll N.transition poller.old.network poller.new.network }
         ensures kept { self.old.stops_accepting ≡ true → self.new.stops_accepting ≡ true }
         ensures now_kept { self.old.stops_now ≡ true → self.new.stops_now ≡ true }

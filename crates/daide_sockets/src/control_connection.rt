@@ -51,6 +51,7 @@ pub(crate) struct ControlConnection<S: Duplex + Drop> {
 impl<S: Duplex + Drop> ControlConnection<S> {
     /// Begins with a connection. Nothing is known of its readiness.
     pub(crate) fn new(stream: S, closes_at: Option<Instant>) -> ControlConnection<S>
+        ensures stream { result.stream ≡ stream }
         ensures reads { result.stage ≡ Stage.Reads }
         ensures empty { result.line.items ≡ [] }
         ensures closes_at { result.closes_at ≡ closes_at }

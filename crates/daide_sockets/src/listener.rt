@@ -4,7 +4,7 @@
 
 ghost use Rattle.std.specs.Option.{is_some};
 ghost use Rattle.std.specs.Prelude.{◌≡◌, ◌⊎◌, IsSome, None, Some, true, false};
-ghost use Rattle.daide_sockets.specs.Accepting.{is_accept_due, accept_pause, Pauses};
+ghost use Rattle.daide_sockets.specs.Accepting.{is_accept_due, accept_pause, resumed, Pauses};
 ghost use Rattle.daide_sockets.specs.Table.{without_report};
 ghost use Rattle.daide_sockets.specs.Clock.{IsAfter, is_past};
 
@@ -63,9 +63,7 @@ impl Listener {
 
     /// Ends the pause if its time is over at this reading of the clock: then an accept may give a connection.
     pub(crate) fn end_pause(&mut self, now: Option<Instant>)
-        ensures over { is_past now self.old.resumes_at ≡ true →
-            self.new ≡ record { may_accept = true; resumes_at = None } }
-        ensures goes_on { is_past now self.old.resumes_at ≡ false → self.new ≡ self.old }
+        ensures { self.new ≡ resumed now self.old }
     {
         if is_past(now, self.resumes_at) {
             self.resumes_at = None;

@@ -4,13 +4,14 @@ ghost use Rattle.std.specs.Net.Socket.{socket_ip};
 ghost use Rattle.std.specs.Option.{is_some};
 ghost use Rattle.std.specs.Prelude.{◌≡◌, ◌≢◌, ◌⊎◌, ℕ, List, Option, ◌<◌, ◌||◌, ◌&&◌, IfSome, None, true, false, [], length, not, slice_get};
 ghost use Rattle.std.specs.declared.time.Duration.{Duration};
+ghost use Rattle.daide_frame.specs.declared.side.Side.TheVariants as Sides;
 ghost use Rattle.daide_io.specs.Ports.{TurnBegins};
 ghost use Rattle.daide_io.specs.ReadyQueue.{is_among, woken_all};
 ghost use Rattle.daide_io.specs.System.{Polls, Shows, Accepts, Connects, BeginsTurn, Rests, Retires, Notifies};
 ghost use Rattle.daide_status.specs.declared.snapshot.SessionRow.{SessionRow};
 ghost use Rattle.daide_settings.specs.BotsInAll.{bots_in_all};
 ghost use Rattle.daide_settings.specs.Ranges.{host_of, may_come};
-ghost use Rattle.daide_sockets.specs.Accepting.{is_bot_due, BringsNoBot, IsUnreached};
+ghost use Rattle.daide_sockets.specs.Accepting.{is_bot_due, round_begun, BringsNoBot, HasConnected, IsUnreached};
 ghost use Rattle.daide_sockets.specs.PollTimes.{listener_armed, others_armed};
 ghost use Rattle.daide_sockets.specs.Capacity.{capacity_after};
 ghost use Rattle.daide_sockets.specs.ControlSlots.{Each, PlaceShows, places, arming_control};
@@ -23,7 +24,7 @@ ghost use Rattle.daide_sockets.specs.Rows.{AreRowsOf, KeepsClosingRows, closing_
 ghost use Rattle.daide_sockets.specs.Scheduling.{BeginsListening, RunEvolves, pair_of, run_state};
 ghost use Rattle.daide_sockets.specs.Snapshot.{IsSessionRow};
 ghost use Rattle.daide_sockets.specs.Clock.{due_after, IsSeconds, IsIdleTime, is_past};
-ghost use Rattle.daide_sockets.specs.Table.{Table, IsPollTime, disarmed};
+ghost use Rattle.daide_sockets.specs.Table.{Table, IsPollTime, disarmed, key_of};
 ghost use Rattle.daide_sockets.specs.Timers.{PortsEvolve};
 ghost use Rattle.daide_sockets.specs.Wakeups.{PollsPlaces};
 ghost use Rattle.daide_sockets.specs.declared.ports.SocketPorts.{SocketPorts as PortsOf};
@@ -87,7 +88,8 @@ use std::time::Duration;
 /// the clock (`Schedules`). The place of a pending connect rests until the deadline of the connect.
 ///
 /// At the end of `poll` the control socket advances, and the next poll watches it (`take_orders`: `control`, `armed`). Once a
-/// stop is requested, or all bots of the run came, the listener for bots is closed (`closes`, `all_came`). Once it is requested
+/// stop is requested, or all bots of the run came, the listener for bots is closed (`acceptor`, `closes`). Otherwise a poll at most
+/// ends the pause after a failed accept, once its time is over (`Schedules`). Once it is requested
 /// that sessions end now, each place is woken (`wake_stopped`), and a pending connect is given up (`connected`). The next turn of a
 /// session stops it, and no later one (`begin_turn`: `stops`, `once`).
 ///
@@ -158,6 +160,7 @@ impl<'w, N: Network, E: Write + Drop> Sockets<'w, N, E> {
         ensures stall_time { IfSome result (λ sockets. IsIdleTime settings.now.stall_seconds sockets.stall_time
             × (sockets.stall_seconds ≡ settings.now.stall_seconds)) }
         ensures connect_time { IfSome result (λ sockets. sockets.connect_time ≡ connect_time) }
+        ensures servers { IfSome result (λ sockets. sockets.servers.now ≡ resources.entry.1.now) }
         ensures rules { IfSome result (λ sockets. (sockets.allow.now ≡ settings.now.allow.items)
             × (sockets.max_per_address ≡ settings.now.max_per_address)) }
         ensures no_orders { IfSome result (λ sockets. (sockets.control.stops_accepting ≡ false)
@@ -244,7 +247,7 @@ impl<'w, N: Network, E: Write + Drop> Sockets<'w, N, E> {
 
     /// Begins a round of the acceptor, and advances the closing sockets.
     fn tidy(&mut self)
-        ensures came { self.new.acceptor.came ≡ self.old.acceptor.came }
+        ensures acceptor { self.new.acceptor ≡ round_begun self.old.poller.table.reading self.old.acceptor }
         ensures arrivals { self.new.arrivals.items ≡ self.old.arrivals.items }
         ensures closing { LooksAround N.Connection.to_give N.Connection.taken N.Connection.calls
             self.old.poller.table.reading (in_pass self.old.closings) self.new.closings }
@@ -522,7 +525,10 @@ impl<'w, N: Network, E: Write + Drop> System<SocketPorts<'w, N::Connection>> for
     /// `present`, `leaves`: those present are the same, except for a bot whose connect is given up.
     ///
     /// `transition`: it makes only calls of a connect: one begins, is asked for its state, or a socket is followed. So it accepts
-    /// no bot and closes no listener (`GoesBy`).
+    /// no bot and closes no listener (`GoesBy`). Each connection that a connect began is followed
+    /// under the key of its place (`ConnectsFrom`).
+    ///
+    /// `connected`: ports are ready only if the network reported that the connect of their server's connection succeeded.
     #[inline(never)]
     fn connected(&mut self, place: usize) -> Connect<SocketPorts<'w, N::Connection>>
         ensures transition { RunEvolves N.transition N.Connection.to_give N.Connection.taken N.Connection.calls
@@ -533,8 +539,10 @@ impl<'w, N: Network, E: Write + Drop> System<SocketPorts<'w, N::Connection>> for
             self.new.arrivals.items self.new.closings) }
         ensures unreached { result ≡ Connect.Failed → self.old.control.stops_now ≡ false →
             (arrival : Arriving N.Connection) × (tried : N) × TakesOut self.old.arrivals.items place arrival self.new.arrivals.items
-            × IsUnreached N.transition self.old.servers.now self.old.poller.table.reading arrival.gives_up arrival.tried
+            × IsUnreached N.transition self.old.servers.now (key_of place Sides.Server) self.old.poller.table.reading arrival.gives_up arrival.tried
             self.old.poller.network tried }
+        ensures connected { (ports : PortsOf N.Connection) → result ≡ Connect.Ready ports → HasConnected N.transition
+            ports.sides.server.stream.stream self.old.poller.network self.new.poller.network }
         ensures present { result ≢ Connect.Failed → self.new.present ≡ self.old.present }
         ensures leaves { result ≡ Connect.Failed → (arrival : Arriving N.Connection)
             × TakesOut self.old.arrivals.items place arrival self.new.arrivals.items

@@ -12,7 +12,7 @@ ghost use Rattle.daide_sockets.specs.Clock.{earlier, IsUntil, IsAfter, is_past};
 ghost use Rattle.daide_io.specs.ReadyQueue.{is_among, woken_all};
 ghost use Rattle.daide_sockets.specs.Table.{AreBounded, AreDeadlinesBounded, ForgetsPlaces, IsFull, TakesRow, WakesPlaces};
 ghost use Rattle.daide_sockets.specs.Table.{deadline_in, event_places, forgotten, free_row, freed, row_at};
-ghost use Rattle.daide_sockets.specs.Table.{has_report, is_reported_at, key_of, latest, merged, new_table, report_at, resting, disarmed};
+ghost use Rattle.daide_sockets.specs.Table.{has_report, is_reported_at, key_of, latest, merged, new_table, report_at, report_of, resting, disarmed};
 ghost use Rattle.daide_sockets.specs.Table.{arming, with_event, with_events, without_report, without_reports};
 
 use crate::clock::{after, earlier, is_past};

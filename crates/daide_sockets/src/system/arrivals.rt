@@ -146,7 +146,7 @@ impl<'w, N: Network, E: Write + Drop> Sockets<'w, N, E> {
         ensures made { place < length self.old.poller.table.deadlines →
             is_vacant self.old.arrivals.items place ≡ true →
             self.old.acceptor.came < u32.MAX → is_bot_due self.old.poller.table self.old.acceptor ≡ true →
-            AcceptsThenConnects N.transition self.old.servers.now self.old.poller.network self.new.poller.network }
+            AcceptsThenConnects N.transition self.old.servers.now (key_of place Server) self.old.poller.network self.new.poller.network }
         ensures not_made { (place < length self.old.poller.table.deadlines →
             is_vacant self.old.arrivals.items place ≡ true →
             self.old.acceptor.came < u32.MAX → is_bot_due self.old.poller.table self.old.acceptor ≡ false) →

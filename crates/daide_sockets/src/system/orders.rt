@@ -1,10 +1,10 @@
 //! What an operator requests of a run: its status, and its stop.
 
-ghost use Rattle.std.specs.Prelude.{◌≡◌, ◌<◌, ◌≤◌, ◌&&◌, ◌∷◌, [], None, nat_le, true, false, length};
+ghost use Rattle.std.specs.Prelude.{◌≡◌, ◌≤◌, ◌&&◌, ◌||◌, ◌∷◌, [], None, nat_le, not, true, false, length};
 ghost use Rattle.daide_io.specs.Network.{StopsListening};
 ghost use Rattle.daide_status.specs.declared.snapshot.RunStatus.{RunStatus};
-ghost use Rattle.daide_sockets.specs.Accepting.{is_bot_due};
-ghost use Rattle.daide_sockets.specs.ControlSlots.{BeginsRound, IsControlRow, places, arming_control};
+ghost use Rattle.daide_sockets.specs.Accepting.{is_bot_due, shut_if, ClosesOrNot};
+ghost use Rattle.daide_sockets.specs.ControlSlots.{BeginsRound, IsControlRow, places, arming_control, is_listener_due};
 ghost use Rattle.daide_sockets.specs.KeptRows.{ChangesRows};
 ghost use Rattle.daide_sockets.specs.Pairing.{pending_connects};
 ghost use Rattle.daide_sockets.specs.Snapshot.{counted, seconds_between, or_zero, IsRunStatus};
@@ -71,6 +71,7 @@ impl<'w, N: Network, E: Write + Drop> Sockets<'w, N, E> {
     fn has_no_orders(&self) -> bool
         ensures open { result ≡ true → self.now.bots_in_all ≤ self.now.acceptor.came → self.now.acceptor.is_closed ≡ true }
         ensures free { result ≡ true → places self.now.control.slots ≡ None ∷ None ∷ None ∷ None ∷ [] }
+        ensures not_due { result ≡ true → is_listener_due self.now.poller.table self.now.control.listener ≡ false }
         ensures armed { result ≡ true →
             self.now.poller.table ≡ arming_control self.now.poller.table self.now.control }
     {
@@ -81,7 +82,9 @@ impl<'w, N: Network, E: Write + Drop> Sockets<'w, N, E> {
     /// Advances the control socket, and returns the operator's orders. Once a stop is requested, or all bots of the run
     /// came, the listener for bots is closed. So a bot that comes too late is refused.
     ///
-    /// `control`: a status has the run as it is at the beginning of the round.
+    /// `control`: a status has the run as it is at the beginning of the round. Of the orders, each is what a control connection
+    /// requested, now or before, and one that is due is accepted (`BeginsRound`). Then the network closes the listener for bots, or
+    /// makes no call.
     ///
     /// `armed`: the next poll watches the control socket.
     ///
@@ -95,8 +98,9 @@ impl<'w, N: Network, E: Write + Drop> Sockets<'w, N, E> {
             (nat_le self.old.max_sessions (length self.old.present.bots.items)
             && is_bot_due self.old.poller.table self.old.acceptor) self.old.control.stops_accepting
             (or_zero (seconds_between self.old.control.started_at self.old.poller.table.reading)) run
-            × BeginsRound N.Connection.to_give N.Connection.taken
-            N.Connection.calls run self.old.poller.table self.old.control result self.new.control }
+            × (after : N) × BeginsRound N.transition N.Connection.to_give N.Connection.taken N.Connection.calls run
+            self.old.poller.table self.old.poller.network self.old.control result after self.new.control
+            × ClosesOrNot N.transition after self.new.poller.network }
         ensures armed { (before : Table) × ChangesRows (IsControlRow self.old.poller.table) self.old.poller.table before
             × (self.new.poller.table ≡ arming_control before self.new.control) }
         ensures calls { GoesBy is_after_poll N.transition self.old.poller.network self.new.poller.network }
@@ -104,11 +108,8 @@ impl<'w, N: Network, E: Write + Drop> Sockets<'w, N, E> {
             (before : N) × N.transition before StopsListening self.new.poller.network }
         ensures all_came { self.old.bots_in_all ≤ self.old.acceptor.came → self.old.acceptor.is_closed ≡ false →
             (before : N) × N.transition before StopsListening self.new.poller.network }
-        ensures open { self.old.acceptor.came < self.old.bots_in_all → result.stops_accepting ≡ false →
-            self.new.acceptor ≡ self.old.acceptor }
-        ensures closed { (self.old.bots_in_all ≤ self.old.acceptor.came → self.new.acceptor.is_closed ≡ true)
-            × (result.stops_accepting ≡ true → self.old.control.stops_accepting ≡ false → self.new.acceptor.is_closed ≡ true) }
-        ensures came { self.new.acceptor.came ≡ self.old.acceptor.came }
+        ensures acceptor { self.new.acceptor ≡ shut_if ((result.stops_accepting && not self.old.control.stops_accepting)
+            || (nat_le self.old.bots_in_all self.old.acceptor.came && not self.old.acceptor.is_closed)) self.old.acceptor }
         ensures same { self.new ≡ record self.old {
           poller = self.new.poller;
           acceptor = self.new.acceptor;
@@ -117,13 +118,14 @@ impl<'w, N: Network, E: Write + Drop> Sockets<'w, N, E> {
     {
         // Most rounds end here.
         if self.has_no_orders() {
-            return self.control.orders_at_rest();
+            return self.control.orders_at_rest(&self.poller);
         }
         let was_stopped = self.control.stops_accepting();
         let run = self.run_status();
         let orders = self.control.begin_round(&mut self.poller, &run);
-        let is_stopped_now = orders.stops_accepting && !was_stopped;
-        if is_stopped_now || self.has_all_bots() && !self.acceptor.is_closed() {
+        let is_stopped_now = orders.stops_accepting & !was_stopped;
+        let closes = is_stopped_now | (self.has_all_bots() & !self.acceptor.is_closed());
+        if closes {
             self.acceptor.close(&mut self.poller);
         }
         self.control.arm(&mut self.poller.table);

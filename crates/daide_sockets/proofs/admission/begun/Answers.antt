@@ -1,4 +1,4 @@
-use Rattle.std.proofs.Common.{Ok, Err, ap, ◌∙◌, inr, refl, rules}
+use Rattle.std.proofs.Common.{Ok, Err, ap, ◌∙◌, refl, rules}
 use Rattle.std.proofs.lemmas.Option.{slice_get_read}
 use Rattle.daide_buffered_io.specs.declared.readiness.Readiness.{Readiness}
 use Rattle.daide_sockets.specs.Table.{Table, report_at}
@@ -9,7 +9,7 @@ use Rattle.daide_sockets.proofs.admission.begun.Goals as goal
 pub loop-address-preserved-in_default-connect : goal.loop-address-preserved-in_default-connect
 loop-address-preserved-in_default-connect g c = record {
   table = c.loop-address.invariant.table;
-  calls = connects_on g.N.Network.transition c.args.servers.now c.args.tried.now c.loop-address.tried
+  calls = connects_on g.N.Network.transition c.args.servers.now c.args.key c.args.tried.now c.loop-address.tried
       c.loop-address.invariant.calls.0 c.in-Some.address.now _ _ _ c.loop-address.invariant.calls.1
       (slice_get_read _ _ _ _ refl c.in-Some.ensures.lookup.3.0 c.in-Some.ensures.lookup.1)
       c.loop-address.invariant.calls.2 (record {
@@ -34,27 +34,27 @@ returns-then-follow-clause-connects g c = record {
 
 pub returns-then-follow-clause-calls : goal.returns-then-follow-clause-calls
 returns-then-follow-clause-calls g c =
-    connects_on g.N.Network.transition c.args.servers.now c.args.tried.now c.loop-address.tried
+    connects_on g.N.Network.transition c.args.servers.now c.args.key c.args.tried.now c.loop-address.tried
     c.loop-address.invariant.calls.0 c.in-Some.address.now _ _ _ c.loop-address.invariant.calls.1
     (slice_get_read _ _ _ _ refl c.in-Some.ensures.lookup.3.0 c.in-Some.ensures.lookup.1)
     c.loop-address.invariant.calls.2 (record {
       begun = Ok c.in-Ok.stream;
       mid = c.connect.new.self;
       call = rw c.in-Ok.is at c.connect.ensures;
-      rest = inr (c.args.key, c.follow.result, _, c.follow.ensures.call);
+      rest = (c.follow.result, _, c.follow.ensures.call);
     })
 
 pub loop-address-preserved : goal.loop-address-preserved
 loop-address-preserved g c = record {
   table = changes_then _ _ _ _ c.loop-address.invariant.table (freed_changes _ _ c.args.key c.follow.ensures.table);
-  calls = connects_on g.N.Network.transition c.args.servers.now c.args.tried.now c.loop-address.tried
+  calls = connects_on g.N.Network.transition c.args.servers.now c.args.key c.args.tried.now c.loop-address.tried
       c.loop-address.invariant.calls.0 c.in-Some.address.now _ _ _ c.loop-address.invariant.calls.1
       (slice_get_read _ _ _ _ refl c.in-Some.ensures.lookup.3.0 c.in-Some.ensures.lookup.1)
       c.loop-address.invariant.calls.2 (record {
         begun = Ok c.in-Ok.stream;
         mid = c.connect.new.self;
         call = rw c.in-Ok.is at c.connect.ensures;
-        rest = inr (c.args.key, c.follow.result, _, c.follow.ensures.call);
+        rest = (c.follow.result, _, c.follow.ensures.call);
       });
 }
 

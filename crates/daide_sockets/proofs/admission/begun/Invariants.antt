@@ -8,7 +8,7 @@ abbrev pub invariant-loop-address : goal.invariant-loop-address
 invariant-loop-address g l = record {
   table : ChangesRows (λ row. row ≡ l.key) l.initial.poller.table l.poller.table;
   calls : (count : ℕ) × (l.tried ≡ l.initial.tried + count)
-      × ConnectsFrom g.N.Network.transition l.servers l.initial.tried count l.initial.poller.network l.poller.network;
+      × ConnectsFrom g.N.Network.transition l.servers l.key l.initial.tried count l.initial.poller.network l.poller.network;
 }
 
 abbrev pub decreases-loop-address : goal.decreases-loop-address

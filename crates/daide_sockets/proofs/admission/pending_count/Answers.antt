@@ -1,4 +1,4 @@
-use Rattle.std.proofs.Common.{◌≡◌, ℕ, ◌+◌, ◌≤◌, ◌<◌, List, Option, drop, ap, length, arith}
+use Rattle.std.proofs.Common.{◌≡◌, List, Option, drop, ap, arith}
 use Rattle.std.proofs.lemmas.List.{drop_all}
 use Rattle.daide_sockets.specs.Pairing.{Arriving, pending_connects}
 use Rattle.daide_sockets.proofs.PairingLemmas.{counts_next}

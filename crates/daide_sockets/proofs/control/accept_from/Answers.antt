@@ -3,6 +3,7 @@ use Rattle.daide_io.specs.Network.{AcceptsControl, Follows}
 use Rattle.daide_sockets.proofs.ControlLemmas.{listener_reported, listener_followed}
 use Rattle.daide_sockets.proofs.KeptRowLemmas.{changes_none}
 use Rattle.daide_sockets.proofs.NetworkCallLemmas.{both, none, one}
+use Rattle.daide_sockets.specs.ControlSlots.{Fails, IsFollowed, IsRefused}
 use Rattle.daide_sockets.specs.Wakeups.{is_after_poll}
 use Rattle.daide_sockets.proofs.control.accept_from.Goals as goal
 
@@ -40,22 +41,12 @@ returns-clause-calls g c =
     (one g.N.Network.transition is_after_poll _ _ (Follows _ c.args.key c.follow.result _) refl c.follow.ensures.call)
 
 pub returns-in-Err-clause-made : goal.returns-in-Err-clause-made
-returns-in-Err-clause-made g c = λ due. record {
-  accepted = c.accept_control.result;
-  mid = c.accept_control.new.self;
-  call = c.accept_control.ensures;
-}
+returns-in-Err-clause-made g c = λ due. Fails c.in-Err.error (rw c.in-Err.is at c.accept_control.ensures) refl
 
 pub returns-then-not-follow-clause-made : goal.returns-then-not-follow-clause-made
-returns-then-not-follow-clause-made g c = λ due. record {
-  accepted = c.accept_control.result;
-  mid = c.accept_control.new.self;
-  call = c.accept_control.ensures;
-}
+returns-then-not-follow-clause-made g c = λ due. IsRefused c.in-Ok.connection _ c.accept_control.new.self
+    (rw c.in-Ok.is at c.accept_control.ensures) (rw c.if-not-follow.true at c.follow.ensures.call) refl
 
 pub returns-clause-made : goal.returns-clause-made
-returns-clause-made g c = λ due. record {
-  accepted = c.accept_control.result;
-  mid = c.accept_control.new.self;
-  call = c.accept_control.ensures;
-}
+returns-clause-made g c = λ due. IsFollowed c.in-Ok.connection _ c.accept_control.new.self
+    (rw c.in-Ok.is at c.accept_control.ensures) (rw c.if-not-follow.false at c.follow.ensures.call) refl

@@ -1,6 +1,5 @@
-use Rattle.std.proofs.Common.{◌≡◌, ℕ, ◌∙◌, ap, subst, refl, true, false, Option}
+use Rattle.std.proofs.Common.{◌≡◌, ◌∙◌, ap, subst, refl, true, false, Option}
 use Rattle.std.specs.declared.time.Instant.{Instant}
-use Rattle.daide_buffered_io.specs.declared.readiness.Readiness.{Readiness}
 use Rattle.daide_sockets.specs.Control.{Advances}
 use Rattle.daide_sockets.specs.Table.{Table}
 use Rattle.daide_sockets.specs.declared.control_connection.ControlConnection.{ControlConnection}

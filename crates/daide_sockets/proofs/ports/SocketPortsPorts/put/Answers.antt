@@ -12,9 +12,9 @@ returns-else-eq-clause-transition g c =
     let socket = c.put-put.new.self in
     let puts = rw c.at_mut.ensures.value at c.put-put.ensures in
     offered_ports g.S.Duplex.to_give g.S.Duplex.taken g.S.Duplex.calls c.args.self.now (put sides side socket) side
-        c.args.bytes.now c.put-put.result
-        (rw (at_put sides side socket) puts.passes)
-        (rw (at_put sides side socket) puts.offered)
-        (rw (at_put sides side socket) puts.in_time)
-        (rw (put_there sides side socket)
-        (same_beside g.S.Duplex.to_give g.S.Duplex.taken g.S.Duplex.calls c.args.self.now.idle.reading (at sides (other side))))
+    c.args.bytes.now c.put-put.result
+    (rw (at_put sides side socket) puts.passes)
+    (rw (at_put sides side socket) puts.offered)
+    (rw (at_put sides side socket) puts.in_time)
+    (rw (put_there sides side socket)
+    (same_beside g.S.Duplex.to_give g.S.Duplex.taken g.S.Duplex.calls c.args.self.now.idle.reading (at sides (other side))))

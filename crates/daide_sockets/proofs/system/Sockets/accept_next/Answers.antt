@@ -22,7 +22,8 @@ returns-clause-times g c = (c.new-arrival.result, search rules, search rules, se
 pub returns-clause-admitted : goal.returns-clause-admitted
 returns-clause-admitted g c =
     let has = c.has_place.ensures.rows c.if-not-has_place.false in
-    let key = key_fits c.args.place _ c.bot_key.result Bot c.bot_key.ensures has.1 in (
+    let key = key_fits c.args.place _ c.bot_key.result Bot c.bot_key.ensures has.1 in
+    let server = key_fits c.args.place _ c.server_key-key.result Server c.server_key-key.ensures has.1 in (
       c.in-Ok.next.0.address,
       search rules,
       record {
@@ -71,12 +72,15 @@ returns-in-Err-clause-made g c =
     })
 
 pub returns-clause-made : goal.returns-clause-made
-returns-clause-made g c = λ lt free few due. rw c.put_arrival.ensures.same (record {
-  mid = c.next_bot-next.new.poller.network;
-  accepts = c.next_bot-next.ensures.once (rw c.await_bots.ensures due) (rw c.await_bots.ensures few);
-  count = c.new-arrival.result.tried;
-  connects = c.new-arrival.ensures.calls;
-})
+returns-clause-made g c = λ lt free few due.
+    let has = c.has_place.ensures.rows c.if-not-has_place.false in
+    let server = key_fits c.args.place _ c.server_key-key.result Server c.server_key-key.ensures has.1 in
+    rw c.put_arrival.ensures.same (record {
+      mid = c.next_bot-next.new.poller.network;
+      accepts = c.next_bot-next.ensures.once (rw c.await_bots.ensures due) (rw c.await_bots.ensures few);
+      count = c.new-arrival.result.tried;
+      connects = rw server at c.new-arrival.ensures.calls;
+    })
 
 pub returns-in-Err-clause-kept : goal.returns-in-Err-clause-kept
 returns-in-Err-clause-kept g c =

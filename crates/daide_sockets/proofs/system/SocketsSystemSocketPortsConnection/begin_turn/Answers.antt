@@ -3,6 +3,10 @@ use Rattle.daide_sockets.specs.Table.{Table}
 use Rattle.daide_sockets.proofs.KeptRowLemmas.{reports_hold, turn_beside}
 use Rattle.daide_sockets.proofs.system.SocketsSystemSocketPortsConnection.begin_turn.Goals as goal
 
+pub returns-then-stops_now-clause-ports : goal.returns-then-stops_now-clause-ports
+returns-then-stops_now-clause-ports g c =
+    rw c.stop.ensures (c.begin_turn.ensures.begins, c.begin_turn.ensures.settles, c.begin_turn.ensures.timers)
+
 -- an operator stops the session, or not
 pub returns-then-stops_now-clause-system : goal.returns-then-stops_now-clause-system
 returns-then-stops_now-clause-system g c = rw c.stop.ensures (λ held. (

@@ -1,14 +1,17 @@
-use Rattle.std.proofs.Common.{length, refl, ap, ◌∙◌}
+use Rattle.std.proofs.Common.{length, refl, ap, ◌∙◌, subst}
 use Rattle.daide_frame.specs.declared.side.Side.TheVariants.{Bot, Server}
 use Rattle.daide_sockets.specs.Pairing.{arrival_at}
 use Rattle.daide_sockets.specs.declared.present.Bot.{Bot as Accepted}
 use Rattle.daide_sockets.specs.Table.{Table, key_of, report_at}
 use Rattle.daide_sockets.proofs.AcceptLemmas.{unreached}
-use Rattle.daide_sockets.proofs.ConnectLemmas.{connected_joins, connected_reports, key_fits, rests_for, rests_unchanged}
+use Rattle.daide_sockets.proofs.ConnectLemmas.{connected_joins, connected_reports, connected_to, ready_is, key_fits, rests_for, rests_unchanged}
 use Rattle.daide_sockets.proofs.KeptRowLemmas.{changes_none, connect_beside, connect_bot, connect_holds, connect_kept, connect_others}
 use Rattle.daide_sockets.proofs.KeptRowLemmas.{failed_beside, failed_holds, failed_others, failed_places, rested_holds, rested_places, same_deadlines}
 use Rattle.daide_sockets.proofs.PairingLemmas.{put_back, there_again, unchanged_pending}
 use Rattle.daide_sockets.proofs.NetworkCallLemmas.{both, none, tries}
+use Rattle.daide_sockets.specs.Accepting.{HasConnected}
+use Rattle.daide_sockets.specs.Scheduling.{pair_of}
+use Rattle.daide_sockets.specs.declared.ports.SocketPorts.{SocketPorts}
 use Rattle.daide_sockets.specs.Wakeups.{is_of_connect}
 use Rattle.daide_sockets.proofs.system.SocketsSystemSocketPortsConnection.connected.Goals as goal
 
@@ -84,7 +87,7 @@ returns-then-advances-clause-transition g c =
           bounded = rw c.put_arrival.ensures.same at c.is_bounded-then-advances.ensures;
         },
         (
-          tries g.N.Network.transition _ _ _ _ _ tried,
+          tries g.N.Network.transition _ _ _ _ _ _ tried,
           connect_others _ _ _ c.args.place _ _ key table c.rest.ensures,
           ap (λ (t : Table). report_at t (key_of c.args.place Bot)) c.rest.ensures
               ∙ connect_bot _ _ c.args.place _ key table,
@@ -126,7 +129,7 @@ returns-in-Ok-clause-transition g c =
           bounded = rw c.log_server.ensures at c.is_bounded-in-Ok.ensures;
         },
         (
-          tries g.N.Network.transition _ _ _ _ _ tried,
+          tries g.N.Network.transition _ _ _ _ _ _ tried,
           connect_kept _ _ c.args.place _ key table,
           (
             connect_bot _ _ c.args.place _ key table,
@@ -139,6 +142,14 @@ returns-in-Ok-clause-transition g c =
       refl,
       connect_beside _ _ c.args.place _ lt key table,
     ))
+
+pub returns-in-Ok-clause-connected : goal.returns-in-Ok-clause-connected
+returns-in-Ok-clause-connected g c = λ ports ready.
+    let reached = connected_to g.N.Network.transition _ _ c.advances.new.self (pair_of c.in-Ok.ports)
+    (c.advances.ensures.connected c.if-advances.false) c.in-Ok.ensures.joined in
+    subst (λ (p : SocketPorts g.row.N-Connection.Denot). HasConnected g.N.Network.transition p.sides.server.stream.stream
+    c.args.self.now.poller.network c.log_server.new.self.poller.network) (ready_is c.in-Ok.ports ports ready)
+    (rw c.log_server.ensures (rw c.take_arrival.ensures.same at reached))
 
 -- its server was not reached
 pub returns-in-Err-clause-transition : goal.returns-in-Err-clause-transition
@@ -162,7 +173,7 @@ returns-in-Err-clause-transition g c =
           bounded = c.is_bounded-in-Err.ensures;
         },
         (
-          both g.N.Network.transition is_of_connect _ _ _ (tries g.N.Network.transition _ _ _ _ _ tried)
+          both g.N.Network.transition is_of_connect _ _ _ (tries g.N.Network.transition _ _ _ _ _ _ tried)
               c.let_go-in-Err.ensures.calls,
           failed_others old mid _ c.args.place _ _ _ lt key table rows held,
           tt,
@@ -182,10 +193,11 @@ returns-in-Err-clause-leaves g c = λ failed.
 pub returns-in-Err-clause-unreached : goal.returns-in-Err-clause-unreached
 returns-in-Err-clause-unreached g c = λ failed off.
     let all = rw c.take_arrival.ensures.same at c.advances.ensures.all in
+    let key = key_fits c.args.place _ c.server_key.result Server c.server_key.ensures c.in-Some.ensures.rows.1 in
     let tried = rw c.take_arrival.ensures.same at c.advances.ensures.tries in
     rw (c.let_go-in-Err.ensures.same, c.take_arrival.ensures.same) (
       c.in-Some.arrival,
       c.advances.new.poller.network,
       c.in-Some.ensures.some,
-      unreached g.N.Network.transition _ _ _ _ _ _ _ (λ early. all early c.in-Err.ensures.unreached.2) tried,
+      unreached g.N.Network.transition _ _ _ _ _ _ _ _ (λ early. all early c.in-Err.ensures.unreached.2) (rw key at tried),
     )

@@ -1,11 +1,15 @@
-use Rattle.std.proofs.Common.{ℕ, ◌<◌, ◌++◌, refl, sym, ap, ◌∙◌, subst}
+use Rattle.std.proofs.Common.{ℕ, ◌<◌, ◌++◌, nat_le, refl, sym, ap, ◌∙◌, subst}
+use Rattle.std.specs.Prelude.{◌||◌, ◌&&◌, not}
 use Rattle.daide_io.specs.ReadyQueue.{ReadyView, woken_all}
 use Rattle.daide_io.proofs.ReadyLemmas.{woken_both}
 use Rattle.daide_sockets.specs.PollTimes.{listener_armed, others_armed}
 use Rattle.daide_sockets.specs.Table.{arming_all}
 use Rattle.daide_sockets.specs.Rows.{closing_keys}
 use Rattle.daide_sockets.specs.Table.{IsPollTime}
+use Rattle.daide_sockets.specs.Accepting.{shut_if}
+use Rattle.daide_sockets.specs.declared.admission.Acceptor.{Acceptor}
 use Rattle.daide_sockets.specs.declared.control.Control.{Control}
+use Rattle.daide_sockets.proofs.AcceptLemmas.{kept_came}
 use Rattle.daide_sockets.proofs.RunPollLemmas.{among_later, polls_run}
 use Rattle.daide_sockets.proofs.system.SocketsSystemSocketPortsConnection.poll.Goals as goal
 
@@ -17,7 +21,10 @@ returns-clause-transition g c =
     (listener_armed s.poller.table s.acceptor) s.closings.streams)) polled.2) c.note_capacity.ensures.same polled.3 in
     let asleep = rw c.note_capacity.ensures.same at polled.5 in
     let places = rw c.note_capacity.ensures.same at polled.7 in
-    let came = rw (c.poll_places.ensures.same, c.note_capacity.ensures.same) at c.tidy.ensures.came in
+    let acceptor = rw (c.poll_places.ensures.same, c.note_capacity.ensures.same) at c.tidy.ensures.acceptor in
+    let before = c.tidy.new.self in
+    let closes = (c.take_orders-orders.result.stops_accepting && not before.control.stops_accepting)
+    || (nat_le before.bots_in_all before.acceptor.came && not before.acceptor.is_closed) in
     let closing = rw (c.poll_places.ensures.same, c.note_capacity.ensures.same) at c.tidy.ensures.closing in
     let control = rw (c.poll_places.ensures.same, c.note_capacity.ensures.same) at c.tidy.ensures.control in
     let rows = rw (c.poll_places.ensures.same, c.note_capacity.ensures.same) at c.tidy.ensures.rows in
@@ -35,9 +42,19 @@ returns-clause-transition g c =
       more.1 ∙ ap (λ (q : ReadyView). woken_all more.0 q) polled.1 ∙ sym (woken_both polled.0 more.0 _),
       λ held. (
         (all.2 held).0,
-        (c.take_orders-orders.ensures.came ∙ came, refl, (_, closing)),
+        (
+          kept_came closes _ c.tidy.new.self.acceptor c.take_orders-orders.ensures.acceptor
+              ∙ ap (λ (a : Acceptor). a.came) acceptor,
+          refl,
+          (_, closing),
+        ),
         (record { places = all.0; bounded = c.is_bounded.ensures }, (_, (all.2 held).1)),
-        ((refl, refl), (all.2 held).1),
+        (
+          (refl, refl),
+          (all.2 held).1,
+          closes,
+          rw all.1 (c.take_orders-orders.ensures.acceptor ∙ ap (shut_if closes) acceptor),
+        ),
         rw all.1 closing,
         tt,
       ),
