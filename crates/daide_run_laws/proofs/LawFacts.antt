@@ -162,7 +162,7 @@ module _ {P S N C : Type 0} (port_transition : P → PortCall → P → Type 0) 
     (trace : TransitsBy (RunEvolves transition to_give taken calls ports_in) first (before ++ early) old)
     (accept : RunEvolves transition to_give taken calls ports_in old (Accepts 2 came) new) where
   has_room : HasRoomForBot old 2 × (is_bot_due old.table old.acceptor ≡ true →
-      (servers : List SocketAddr) × AcceptsThenConnects transition servers 5 old.network new.network)
+      (servers : List SocketAddr) × AcceptsThenConnects transition old.acceptor.descriptors servers 5 old.network new.network)
   has_room = law settings 9 before early run next first old new 2 came (omega (arith, bots)) none holds places no_arrivals rounds
       round trace accept
 
@@ -172,5 +172,5 @@ module _ {P S N C : Type 0} (port_transition : P → PortCall → P → Type 0) 
 
   -- while an accept is due, exactly one is made
   ready_accept : is_bot_due old.table old.acceptor ≡ true →
-      (servers : List SocketAddr) × AcceptsThenConnects transition servers 5 old.network new.network
+      (servers : List SocketAddr) × AcceptsThenConnects transition old.acceptor.descriptors servers 5 old.network new.network
   ready_accept due = has_room.1 due

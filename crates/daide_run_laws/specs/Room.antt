@@ -28,4 +28,4 @@ EachBotHasRoom {P} {S} {N} port_transition transition to_give taken calls ports_
     TransitsBy (RunEvolves transition to_give taken calls ports_in) first (before ++ early) old →
     RunEvolves transition to_give taken calls ports_in old (Accepts place came) new →
     HasRoomForBot old place × (is_bot_due old.table old.acceptor ≡ true →
-    (servers : List SocketAddr) × AcceptsThenConnects transition servers (key_of place Server) old.network new.network)
+    (servers : List SocketAddr) × AcceptsThenConnects transition old.acceptor.descriptors servers (key_of place Server) old.network new.network)

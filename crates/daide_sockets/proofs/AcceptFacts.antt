@@ -1,10 +1,10 @@
--- Over a network that is the list of its calls: those of a due accept have exactly one accept, and the first connect is to the
+-- Over a network that is the list of its calls: those of a due accept have at most one accept, and the first connect is to the
 -- first address.
-use Rattle.std.proofs.Common.{◌≡◌, ℕ, zero, suc, ◌+◌, List, [], ◌∷◌, ◌++◌, Some, Result, Ok, Err, ap, ◌∙◌, inl, inr, arith}
+use Rattle.std.proofs.Common.{◌≡◌, ◌≤◌, ℕ, zero, suc, ◌+◌, List, [], ◌∷◌, ◌++◌, Some, Result, Ok, Err, ap, ◌∙◌, inl, inr, arith}
 use Rattle.std.specs.declared.io.Error.{Error}
 use Rattle.std.specs.declared.net.socket_addr.SocketAddr.{SocketAddr}
 use Rattle.daide_io.specs.Network.{NetworkCall, AcceptsConnection, BeginsConnect}
-use Rattle.daide_sockets.specs.Accepting.{FollowsAtMostOnce, FollowsAccepted, FollowsBegun, ConnectsFrom, AcceptsThenConnects}
+use Rattle.daide_sockets.specs.Accepting.{AcceptsBeside, LacksDescriptors, HasDescriptors, FollowsAtMostOnce, FollowsAccepted, FollowsBegun, ConnectsFrom, AcceptsThenConnects}
 
 module _ {C : Type 0} where
   -- one more call was made
@@ -54,12 +54,31 @@ module _ {C : Type 0} where
       let rest = after_begun key h.4.begun h.4.mid new h.4.rest in
       omega (arith, before, call, rest)
 
-  one_is_accepted : (servers : List SocketAddr) (key : ℕ) (calls : List (NetworkCall C)) → AcceptsThenConnects Called servers key [] calls →
-      accepts_in calls ≡ 1
-  one_is_accepted servers key calls h =
-      let call = after_call [] h.accepts.mid _ h.accepts.call in
+  -- an accept without its descriptors is no accept
+  after_beside : (count : ℕ) (accepted : Result (C × SocketAddr) Error) (old new : List (NetworkCall C)) →
+      AcceptsBeside Called count old new accepted → accepts_in new ≤ accepts_in old + 1
+  after_beside count accepted old new (LacksDescriptors error call e) =
+      let checks = after_call old new _ call in omega (arith, checks)
+  after_beside count accepted old new (HasDescriptors mid checked call) =
+      let checks = after_call old mid _ checked in
+      let accepts = after_call mid new _ call in
+      omega (arith, checks, accepts)
+
+  -- with them it is one
+  after_given : (count : ℕ) (came : C × SocketAddr) (old new : List (NetworkCall C)) →
+      AcceptsBeside Called count old new (Ok came) → accepts_in new ≡ accepts_in old + 1
+  after_given count came old new (LacksDescriptors error call e) = absurd (cc)
+  after_given count came old new (HasDescriptors mid checked call) =
+      let checks = after_call old mid _ checked in
+      let accepts = after_call mid new _ call in
+      omega (arith, checks, accepts)
+
+  at_most_one_is_accepted : (descriptors : ℕ) (servers : List SocketAddr) (key : ℕ) (calls : List (NetworkCall C)) →
+      AcceptsThenConnects Called descriptors servers key [] calls → accepts_in calls ≤ 1
+  at_most_one_is_accepted descriptors servers key calls h =
+      let call = after_beside descriptors h.accepts.accepted [] h.accepts.mid h.accepts.call in
       let rest = after_accepted h.accepts.accepted h.accepts.mid h.mid h.accepts.rest in
-      let connects = after_connects servers key 0 h.count h.mid calls h.connects in
+      let connects = after_connects servers key 0 h.tried h.mid calls h.connects in
       omega (arith, call, rest, connects)
 
   first_address_is_first : (one two : SocketAddr) (key : ℕ) (calls : List (NetworkCall C)) →

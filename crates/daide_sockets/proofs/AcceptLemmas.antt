@@ -2,14 +2,14 @@
 use Rattle.std.proofs.Common.{◌≡◌, ◌≤◌, ◌⊎◌, ℕ, ◌+◌, suc, length, true, false, Bool, Option, Some, None, Result, Ok, Err, List, refl, sym, ap, ◌∙◌, inl, inr, arith}
 use Rattle.std.specs.declared.io.Error.{Error}
 use Rattle.std.specs.declared.net.socket_addr.SocketAddr.{SocketAddr}
-use Rattle.daide_io.specs.Network.{NetworkCall, AcceptsConnection, Follows}
+use Rattle.daide_io.specs.Network.{NetworkCall, Follows}
 use Rattle.std.specs.Prelude.{◌&&◌, ◌||◌, not, slice_get}
 use Rattle.std.specs.declared.time.Instant.{Instant}
 use Rattle.daide_buffered_io.specs.declared.readiness.Readiness.{Readiness}
 use Rattle.daide_sockets.specs.declared.admission.Acceptor.{Acceptor}
 use Rattle.daide_sockets.specs.declared.listener.Listener.{Listener}
 use Rattle.daide_sockets.specs.Accepting.{is_accept_made, is_accept_due, is_bot_due, accept_pause, connection_given, shut_if}
-use Rattle.daide_sockets.specs.Accepting.{AcceptsOnce, AcceptsOneBot, BringsBot, BringsNoBot, FollowsAtMostOnce, FollowsAccepted, ConnectsOnce, ConnectsFrom}
+use Rattle.daide_sockets.specs.Accepting.{AcceptsBeside, AcceptsOnce, AcceptsOneBot, BringsBot, BringsNoBot, GivesConnection, FollowsAtMostOnce, FollowsAccepted, ConnectsOnce, ConnectsFrom}
 use Rattle.daide_sockets.specs.Accepting.{Fails, MayNotCome, IsRefused, TriesOn, IsUnreached, IsLate, TriedAll}
 use Rattle.daide_sockets.specs.Table.{Table, freed, listener_key, report_at, without_report}
 use Rattle.daide_sockets.specs.KeptRows.{ChangesRows}
@@ -75,7 +75,7 @@ listened_followed old mid new key h e =
     changes_then (λ row. (row ≡ listener_key old) ⊎ (row ≡ key)) old mid new (listened old mid key h)
     (changes_more (λ row. row ≡ key) (λ row. (row ≡ listener_key old) ⊎ (row ≡ key)) mid new (λ row is. inr is) (freed_changes mid new key e))
 
-module _ {N C : Type 0} (transition : N → NetworkCall C → N → Type 0) where
+module _ {N C : Type 0} (transition : N → NetworkCall C → N → Type 0) (count : ℕ) where
   -- no call was made but one by which the given connection is followed
   abbrev pub FollowsGiven : Option (C × SocketAddr) → N → N → Type 0
   FollowsGiven None old new = new ≡ old
@@ -87,22 +87,14 @@ module _ {N C : Type 0} (transition : N → NetworkCall C → N → Type 0) wher
   given_accepted (Err error) old new h = h
 
   -- one bot was accepted if the one accept is followed by no call but that by which its connection is followed
-  pub accepts_one : (given : Option (C × SocketAddr)) (old mid new : N) → AcceptsOnce transition old mid given →
-      FollowsGiven given mid new → AcceptsOneBot transition old new
+  pub accepts_one : (given : Option (C × SocketAddr)) (old mid new : N) → AcceptsOnce transition count old mid given →
+      FollowsGiven given mid new → AcceptsOneBot transition count old new
   accepts_one given old mid new once rest = record {
     accepted = once.accepted;
     mid = mid;
     call = once.call;
     rest = given_accepted once.accepted mid new (rw once.given at rest);
   }
-
-  -- one more connect, to the next address
-  pub connects_on : (addresses : List SocketAddr) (key place tried count : ℕ) (address : SocketAddr) (old mid new : N) →
-      tried ≡ place + count → slice_get addresses tried ≡ Some address →
-      ConnectsFrom transition addresses key place count old mid → ConnectsOnce transition key address mid new →
-      (more : ℕ) × (tried + 1 ≡ place + more) × ConnectsFrom transition addresses key place more old new
-  connects_on addresses key place tried count address old mid new at listed before once =
-      (suc count, omega (arith, at), (mid, address, before, rw at at listed, once))
 
   -- ---- an accept that brings a bot, or none
 
@@ -111,13 +103,17 @@ module _ {N C : Type 0} (transition : N → NetworkCall C → N → Type 0) wher
   accepted_is (Ok other) came h = cc
   accepted_is (Err error) came h = absurd (cc)
 
-  accepts : (came : C × SocketAddr) (old mid : N) → AcceptsOnce transition old mid (Some came) →
-      transition old (AcceptsConnection (Ok came)) mid
+  accepts : (came : C × SocketAddr) (old mid : N) → AcceptsOnce transition count old mid (Some came) →
+      AcceptsBeside transition count old mid (Ok came)
   accepts came old mid once = rw (accepted_is once.accepted came once.given) at once.call
 
+  pub gives : (came : C × SocketAddr) (old mid : N) → AcceptsOnce transition count old mid (Some came) →
+      GivesConnection transition count old
+  gives came old mid once = record { came = came; mid = mid; call = accepts came old mid once }
+
   pub brings_bot : (given : C) (address : SocketAddr) (key : ℕ) (connection : C) (old mid new : N) →
-      AcceptsOnce transition old mid (Some (given, address)) → transition mid (Follows given key true connection) new →
-      BringsBot transition address key connection old new
+      AcceptsOnce transition count old mid (Some (given, address)) → transition mid (Follows given key true connection) new →
+      BringsBot transition count address key connection old new
   brings_bot given address key connection old mid new once follows = record {
     given = given;
     mid = mid;
@@ -126,21 +122,30 @@ module _ {N C : Type 0} (transition : N → NetworkCall C → N → Type 0) wher
   }
 
   module _ (may_come : SocketAddr → Bool) (old mid : N) where
-    failed : (accepted : Result (C × SocketAddr) Error) → transition old (AcceptsConnection accepted) mid →
-        None ≡ connection_given accepted → BringsNoBot transition may_come old mid
+    failed : (accepted : Result (C × SocketAddr) Error) → AcceptsBeside transition count old mid accepted →
+        None ≡ connection_given accepted → BringsNoBot transition count may_come old mid
     failed (Ok came) call h = absurd (cc)
     failed (Err error) call h = Fails error call
 
-    pub brings_none : AcceptsOnce transition old mid None → BringsNoBot transition may_come old mid
+    pub brings_none : AcceptsOnce transition count old mid None → BringsNoBot transition count may_come old mid
     brings_none once = failed once.accepted once.call once.given
 
-    pub brings_declined : (came : C × SocketAddr) → AcceptsOnce transition old mid (Some came) → may_come came.1 ≡ false →
-        BringsNoBot transition may_come old mid
+    pub brings_declined : (came : C × SocketAddr) → AcceptsOnce transition count old mid (Some came) → may_come came.1 ≡ false →
+        BringsNoBot transition count may_come old mid
     brings_declined came once declined = MayNotCome came (accepts came old mid once) declined
 
-    pub brings_refused : (came : C × SocketAddr) (new : N) (key : ℕ) (after : C) → AcceptsOnce transition old mid (Some came) →
-        transition mid (Follows came.0 key false after) new → BringsNoBot transition may_come old new
+    pub brings_refused : (came : C × SocketAddr) (new : N) (key : ℕ) (after : C) → AcceptsOnce transition count old mid (Some came) →
+        transition mid (Follows came.0 key false after) new → BringsNoBot transition count may_come old new
     brings_refused came new key after once h = IsRefused came mid key after (accepts came old mid once) h
+
+module _ {N C : Type 0} (transition : N → NetworkCall C → N → Type 0) where
+  -- one more connect, to the next address
+  pub connects_on : (addresses : List SocketAddr) (key place tried count : ℕ) (address : SocketAddr) (old mid new : N) →
+      tried ≡ place + count → slice_get addresses tried ≡ Some address →
+      ConnectsFrom transition addresses key place count old mid → ConnectsOnce transition key address mid new →
+      (more : ℕ) × (tried + 1 ≡ place + more) × ConnectsFrom transition addresses key place more old new
+  connects_on addresses key place tried count address old mid new at listed before once =
+      (suc count, omega (arith, at), (mid, address, before, rw at at listed, once))
 
   -- ---- a connect that is given up
 

@@ -6,7 +6,7 @@ use Rattle.std.specs.declared.io.ErrorKind.{ErrorKind}
 use Rattle.std.specs.declared.net.socket_addr.SocketAddr.{SocketAddr}
 use Rattle.std.specs.declared.io.ErrorKind.TheVariants as Kinds
 use Rattle.std.specs.declared.time.Instant.{Instant}
-use Rattle.daide_io.specs.Network.{NetworkCall, AcceptsConnection, BeginsConnect, AsksConnect, Follows, StopsListening, connect_status}
+use Rattle.daide_io.specs.Network.{NetworkCall, ChecksDescriptors, AcceptsConnection, BeginsConnect, AsksConnect, Follows, StopsListening, connect_status}
 use Rattle.daide_io.specs.declared.network.ConnectReport.{ConnectReport}
 use Rattle.daide_io.specs.declared.network.ConnectStatus.TheVariants.{Connected}
 use Rattle.daide_buffered_io.specs.declared.readiness.Readiness.{Readiness}
@@ -70,11 +70,24 @@ connection_given (Err error) = None
 abbrev pub ClosesOrNot : {N C : Type 0} → (N → NetworkCall C → N → Type 0) → N → N → Type 0
 ClosesOrNot transition old new = (new ≡ old) ⊎ transition old StopsListening new
 
--- exactly one call was made, an accept, and what it gave is returned
-pub record AcceptsOnce {N C : Type 0} (transition : N → NetworkCall C → N → Type 0) (old new : N)
+-- the descriptors that an accept of a bot needs: for its connection, for that to its server, and for its record, if it has one
+abbrev pub descriptors_for : Bool → ℕ
+descriptors_for false = 2
+descriptors_for true = 3
+
+-- An accept while so many further descriptors are free. Without them it fails with the system's error, and none is made.
+pub data AcceptsBeside {N C : Type 0} (transition : N → NetworkCall C → N → Type 0) (count : ℕ) (old new : N)
+    (accepted : Result (C × SocketAddr) Error) : Type 0 where
+  LacksDescriptors : (error : Error) → transition old (ChecksDescriptors count (Err error)) new → accepted ≡ Err error →
+      AcceptsBeside transition count old new accepted
+  HasDescriptors : (mid : N) → transition old (ChecksDescriptors count (Ok tt)) mid →
+      transition mid (AcceptsConnection accepted) new → AcceptsBeside transition count old new accepted
+
+-- exactly one accept was tried, and what it gave is returned
+pub record AcceptsOnce {N C : Type 0} (transition : N → NetworkCall C → N → Type 0) (count : ℕ) (old new : N)
     (result : Option (C × SocketAddr)) : Type 0 where
   pub accepted : Result (C × SocketAddr) Error
-  pub call : transition old (AcceptsConnection accepted) new
+  pub call : AcceptsBeside transition count old new accepted
   pub given : result ≡ connection_given accepted
 
 -- no call was made, or one by which this connection is followed
@@ -88,11 +101,11 @@ abbrev pub FollowsAccepted : {N C : Type 0} → (N → NetworkCall C → N → T
 FollowsAccepted transition (Ok came) old new = FollowsAtMostOnce transition came.0 old new
 FollowsAccepted transition (Err error) old new = new ≡ old
 
--- One accept was made, and then no call but one by which its connection is followed. So no other bot was accepted.
-pub record AcceptsOneBot {N C : Type 0} (transition : N → NetworkCall C → N → Type 0) (old new : N) : Type 0 where
+-- One accept was tried, and then no call but one by which its connection is followed. So no other bot was accepted.
+pub record AcceptsOneBot {N C : Type 0} (transition : N → NetworkCall C → N → Type 0) (count : ℕ) (old new : N) : Type 0 where
   pub accepted : Result (C × SocketAddr) Error
   pub mid : N
-  pub call : transition old (AcceptsConnection accepted) mid
+  pub call : AcceptsBeside transition count old mid accepted
   pub rest : FollowsAccepted transition accepted mid new
 
 -- the connection that a connect began is followed under this key, or the system refused; without one no call was made
@@ -151,36 +164,36 @@ pub data IsUnreached {N C : Type 0} (transition : N → NetworkCall C → N → 
   TriedAll : (after : ℕ) → length addresses ≤ after → TriesOn transition addresses key before after old new →
       IsUnreached transition addresses key reading due before old new
 
--- One accept was made, its connection was followed, and then connects were made to some of these addresses, from the first
+-- One accept was tried, its connection was followed, and then connects were made to some of these addresses, from the first
 -- on, each followed under this key. So no other bot was accepted, by whichever call.
-pub record AcceptsThenConnects {N C : Type 0} (transition : N → NetworkCall C → N → Type 0) (addresses : List SocketAddr)
-    (key : ℕ) (old new : N) : Type 0 where
+pub record AcceptsThenConnects {N C : Type 0} (transition : N → NetworkCall C → N → Type 0) (count : ℕ)
+    (addresses : List SocketAddr) (key : ℕ) (old new : N) : Type 0 where
   pub mid : N
-  pub accepts : AcceptsOneBot transition old mid
-  pub count : ℕ
-  pub connects : ConnectsFrom transition addresses key 0 count mid new
+  pub accepts : AcceptsOneBot transition count old mid
+  pub tried : ℕ
+  pub connects : ConnectsFrom transition addresses key 0 tried mid new
 
 -- One accept was made, which gave a connection with this address, and then one call by which that connection is followed under
 -- this key, as this one. So the bot of this connection has the address that the network returned.
-pub record BringsBot {N C : Type 0} (transition : N → NetworkCall C → N → Type 0) (address : SocketAddr) (key : ℕ)
+pub record BringsBot {N C : Type 0} (transition : N → NetworkCall C → N → Type 0) (count : ℕ) (address : SocketAddr) (key : ℕ)
     (connection : C) (old new : N) : Type 0 where
   pub given : C
   pub mid : N
-  pub accepts : transition old (AcceptsConnection (Ok (given, address))) mid
+  pub accepts : AcceptsBeside transition count old mid (Ok (given, address))
   pub follows : transition mid (Follows given key true connection) new
 
--- Why a due accept brings no bot: it failed; or its bot may not come, by its address; or the system refused to follow its
--- connection.
-pub data BringsNoBot {N C : Type 0} (transition : N → NetworkCall C → N → Type 0) (may_come : SocketAddr → Bool) (old new : N) :
-    Type 0 where
-  Fails : (error : Error) → transition old (AcceptsConnection (Err error)) new → BringsNoBot transition may_come old new
-  MayNotCome : (came : C × SocketAddr) → transition old (AcceptsConnection (Ok came)) new → may_come came.1 ≡ false →
-      BringsNoBot transition may_come old new
-  IsRefused : (came : C × SocketAddr) (mid : N) (key : ℕ) (after : C) → transition old (AcceptsConnection (Ok came)) mid →
-      transition mid (Follows came.0 key false after) new → BringsNoBot transition may_come old new
+-- Why a due accept brings no bot: it failed, or a descriptor was missing; or its bot may not come, by its address; or the system
+-- refused to follow its connection.
+pub data BringsNoBot {N C : Type 0} (transition : N → NetworkCall C → N → Type 0) (count : ℕ) (may_come : SocketAddr → Bool)
+    (old new : N) : Type 0 where
+  Fails : (error : Error) → AcceptsBeside transition count old new (Err error) → BringsNoBot transition count may_come old new
+  MayNotCome : (came : C × SocketAddr) → AcceptsBeside transition count old new (Ok came) → may_come came.1 ≡ false →
+      BringsNoBot transition count may_come old new
+  IsRefused : (came : C × SocketAddr) (mid : N) (key : ℕ) (after : C) → AcceptsBeside transition count old mid (Ok came) →
+      transition mid (Follows came.0 key false after) new → BringsNoBot transition count may_come old new
 
 -- an accept was made, and gave a connection
-pub record GivesConnection {N C : Type 0} (transition : N → NetworkCall C → N → Type 0) (old : N) : Type 0 where
+pub record GivesConnection {N C : Type 0} (transition : N → NetworkCall C → N → Type 0) (count : ℕ) (old : N) : Type 0 where
   pub came : C × SocketAddr
   pub mid : N
-  pub call : transition old (AcceptsConnection (Ok came)) mid
+  pub call : AcceptsBeside transition count old mid (Ok came)

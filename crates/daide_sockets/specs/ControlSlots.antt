@@ -1,7 +1,7 @@
 -- The control connections of a run together: at most four. (own)
 use Rattle.std.specs.Prelude.{◌≡◌, ℕ, ◌+◌, ◌<◌, Bool, true, false, ◌||◌, List, [], ◌∷◌, Option, Some, None, if◌then◌else◌}
 use Rattle.std.specs.declared.time.Instant.{Instant}
-use Rattle.daide_io.specs.Network.{NetworkCall, AcceptsControl, Follows}
+use Rattle.daide_io.specs.Network.{NetworkCall, ChecksDescriptors, AcceptsControl, Follows}
 use Rattle.daide_io.specs.Streams.{StreamCall}
 use Rattle.daide_io.specs.declared.system.Orders.{Orders}
 use Rattle.daide_buffered_io.specs.declared.readiness.Readiness.{Readiness}
@@ -118,16 +118,24 @@ abbrev pub is_listener_due : Table → Option Listener → Bool
 is_listener_due table None = false
 is_listener_due table (Some listener) = is_control_due table listener
 
--- What one accept of a control connection brings: none if it failed. Otherwise the connection that it gave is followed under
--- this key, and comes unless the system refuses.
+-- the descriptors that an accept of a control connection needs: for it, and one more, so that it never takes the last
+abbrev pub control_descriptors : ℕ
+control_descriptors = 2
+
+-- What one accept of a control connection brings: none if descriptors are missing, or if it failed. Otherwise the connection
+-- that it gave is followed under this key, and comes unless the system refuses.
 pub data BringsControl {N C : Type 0} (transition : N → NetworkCall C → N → Type 0) (key : ℕ) (old new : N) (came : Option C) :
     Type 0 where
-  Fails : (error : Error) → transition old (AcceptsControl (Err error)) new → came ≡ None →
+  LacksDescriptors : (error : Error) → transition old (ChecksDescriptors control_descriptors (Err error)) new → came ≡ None →
       BringsControl transition key old new came
-  IsFollowed : (given after : C) (mid : N) → transition old (AcceptsControl (Ok given)) mid →
-      transition mid (Follows given key true after) new → came ≡ Some after → BringsControl transition key old new came
-  IsRefused : (given after : C) (mid : N) → transition old (AcceptsControl (Ok given)) mid →
-      transition mid (Follows given key false after) new → came ≡ None → BringsControl transition key old new came
+  Fails : (free : N) (error : Error) → transition old (ChecksDescriptors control_descriptors (Ok tt)) free →
+      transition free (AcceptsControl (Err error)) new → came ≡ None → BringsControl transition key old new came
+  IsFollowed : (free mid : N) (given after : C) → transition old (ChecksDescriptors control_descriptors (Ok tt)) free →
+      transition free (AcceptsControl (Ok given)) mid → transition mid (Follows given key true after) new →
+      came ≡ Some after → BringsControl transition key old new came
+  IsRefused : (free mid : N) (given after : C) → transition old (ChecksDescriptors control_descriptors (Ok tt)) free →
+      transition free (AcceptsControl (Ok given)) mid → transition mid (Follows given key false after) new →
+      came ≡ None → BringsControl transition key old new came
 
 -- the connection that an accept brought is at the first place that was free; without one all places are unchanged
 abbrev pub TakesPlace : {S : Type 0} → Option Instant → Option S → List (Option (ControlConnection S)) →

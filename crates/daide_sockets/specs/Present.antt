@@ -49,12 +49,12 @@ HasRoomForOne present = length present.bots.items < vec_capacity present.bots
 -- of the bot of the place, and is that of the bot whose connect is pending there. By this address it may come beside those present
 -- before, by the ranges and the limit of `rules`. It is the last of those present. It has this number, this address, and this
 -- reading of the clock as the time at which it came.
-pub record AdmitsBot {N C : Type 0} (transition : N → NetworkCall C → N → Type 0) (servers : List SocketAddr)
+pub record AdmitsBot {N C : Type 0} (transition : N → NetworkCall C → N → Type 0) (count : ℕ) (servers : List SocketAddr)
     (rules : List AddressRange × ℕ) (reading : Option Instant) (place number : ℕ) (address : SocketAddr)
     (old new : N × List (Option (Arriving C)) × Present) : Type 0 where
   pub arrival : Arriving C
   pub mid : N
-  pub brings : BringsBot transition address (key_of place Sides.Bot) arrival.bot.stream old.0 mid
+  pub brings : BringsBot transition count address (key_of place Sides.Bot) arrival.bot.stream old.0 mid
   pub connects : ConnectsFrom transition servers (key_of place Sides.Server) 0 arrival.tried mid new.0
   pub arrivals : new.1 ≡ slice_set old.1 place (Some arrival)
   pub identity : arrival.identity ≡ bot_from number address reading

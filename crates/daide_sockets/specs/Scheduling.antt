@@ -76,7 +76,7 @@ HasRoomForBot state place = (place < length state.table.deadlines) × (is_vacant
 pub record AsksListener {N C S : Type 0} (transition : N → NetworkCall C → N → Type 0) (old : RunState N S) (place : ℕ)
     (new : RunState N S) : Type 0 where
   pub made : HasRoomForBot old place → is_bot_due old.table old.acceptor ≡ true →
-      (servers : List SocketAddr) × AcceptsThenConnects transition servers (key_of place Server) old.network new.network
+      (servers : List SocketAddr) × AcceptsThenConnects transition old.acceptor.descriptors servers (key_of place Server) old.network new.network
   pub not_made : (HasRoomForBot old place → is_bot_due old.table old.acceptor ≡ false) → new.network ≡ old.network
   pub awaited : new.acceptor.awaits_bots ≡ true
 

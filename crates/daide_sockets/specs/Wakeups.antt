@@ -14,7 +14,7 @@ use Rattle.daide_io.specs.declared.ports.Put.TheVariants.{Took}
 use Rattle.daide_io.specs.declared.system.Connect.{Connect}
 use Rattle.daide_io.specs.declared.system.Connect.TheVariants.{Ready, Failed, Pending}
 use Rattle.daide_sockets.specs.Clock.{earlier, next_deadline, is_past}
-use Rattle.daide_io.specs.Network.{NetworkCall, StopsListening, AcceptsControl, BeginsConnect, Follows, AsksConnect}
+use Rattle.daide_io.specs.Network.{NetworkCall, ChecksDescriptors, StopsListening, AcceptsControl, BeginsConnect, Follows, AsksConnect}
 use Rattle.daide_io.specs.Ports.{PortCall, TurnBegins, Clock, Pulled, Offered}
 use Rattle.daide_io.specs.ReadyQueue.{is_among}
 use Rattle.daide_io.specs.Streams.{StreamCall}
@@ -146,9 +146,11 @@ is_of_connect (Follows before key is_followed after) = true
 is_of_connect (AsksConnect connection report) = true
 is_of_connect _ = false
 
--- a call that a poll may make after it: a control connection is accepted or followed, or the listener for bots is closed
+-- a call that a poll may make after it: descriptors are checked, a control connection is accepted or followed, or the listener for
+-- bots is closed
 abbrev pub is_after_poll : {C : Type 0} → NetworkCall C → Bool
 is_after_poll StopsListening = true
+is_after_poll (ChecksDescriptors count checked) = true
 is_after_poll (AcceptsControl accepted) = true
 is_after_poll (Follows before key is_followed after) = true
 is_after_poll _ = false

@@ -10,7 +10,7 @@ ghost use Rattle.daide_buffered_io.specs.Buffers.{Buffer};
 ghost use Rattle.daide_io.specs.Network.{AsksConnect, Listens, StopsListening, connect_status};
 ghost use Rattle.daide_io.specs.declared.network.ConnectReport.{ConnectReport};
 ghost use Rattle.daide_settings.specs.Ranges.{host_of, may_come};
-ghost use Rattle.daide_sockets.specs.Accepting.{is_bot_due, may_connect, round_begun, shut, AcceptsOnce, AcceptsOneBot, BringsBot};
+ghost use Rattle.daide_sockets.specs.Accepting.{is_bot_due, may_connect, descriptors_for, round_begun, shut, AcceptsOnce, AcceptsOneBot, BringsBot};
 ghost use Rattle.daide_sockets.specs.Accepting.{AsksAtMostOnce, BringsNoBot, ConnectsFrom, HasConnected, TriesOn, GivesConnection, Pauses};
 ghost use Rattle.daide_sockets.specs.PollTimes.{listener_armed};
 ghost use Rattle.daide_sockets.specs.KeptRows.{ChangesRows};
@@ -46,13 +46,16 @@ pub struct Acceptor {
     is_closed: bool,
     /// The number of bots accepted.
     came: u32,
+    /// The further descriptors that must be free for an accept: for the connection, for that to the server, and for a record.
+    descriptors: usize,
 }
 
 impl Acceptor {
     /// Has the listener followed. Returns `None` if the system refuses.
     pub fn new<N: Network>(poller: &mut Poller<N>) -> Option<Acceptor>
         ensures begins { IfSome result (λ acceptor. (acceptor.came ≡ 0) × (acceptor.listener.resumes_at ≡ None)
-            × (acceptor.awaits_bots ≡ false) × (acceptor.is_closed ≡ false)) }
+            × (acceptor.awaits_bots ≡ false) × (acceptor.is_closed ≡ false)
+            × (acceptor.descriptors ≡ descriptors_for false)) }
         ensures listens { IsSome result → N.transition poller.old.network (Listens (listener_key poller.old.table) true)
             poller.new.network }
         ensures table { poller.new.table ≡ poller.old.table }
@@ -66,7 +69,15 @@ impl Acceptor {
             awaits_bots: false,
             is_closed: false,
             came: 0,
+            descriptors: 2,
         })
+    }
+
+    /// Has each accept need a descriptor for the file of a record, too, or not.
+    pub(crate) fn set_recorded(&mut self, is_recorded: bool)
+        ensures { self.new ≡ record self.old { descriptors = descriptors_for is_recorded } }
+    {
+        self.descriptors = if is_recorded { 3 } else { 2 };
     }
 
     /// Begins a round, in which it was not asked for a bot yet. Ends the pause after a failed accept, if its time is over
@@ -129,10 +140,10 @@ impl Acceptor {
         !self.is_closed && self.listener.is_due(table, table.listener_key())
     }
 
-    /// Accepts a connection, and returns it with its address. Returns `None` if there is none. Makes no system call
-    /// during the pause after a failed accept.
+    /// Accepts a connection, and returns it with its address. Returns `None` if there is none, or if a descriptor is missing.
+    /// Makes no system call during the pause after a failed accept.
     ///
-    /// `once`: if an accept is due, exactly one is made, and what it gave is returned. So no connection is dropped.
+    /// `once`: if an accept is due, exactly one is tried, and what it gave is returned. So no connection is dropped.
     ///
     /// `left`: if it returns none, no accept is due any more at this reading of the clock.
     ///
@@ -143,23 +154,24 @@ impl Acceptor {
     ) -> Option<(N::Connection, SocketAddr)>
         ensures came { self.new.came ≡ self.old.came }
         ensures awaited { self.new.awaits_bots ≡ self.old.awaits_bots }
+        ensures descriptors { self.new.descriptors ≡ self.old.descriptors }
         ensures clock { poller.new.table.reading ≡ poller.old.table.reading }
         ensures once { is_bot_due poller.old.table self.old ≡ true →
-            AcceptsOnce N.transition poller.old.network poller.new.network result }
+            AcceptsOnce N.transition self.old.descriptors poller.old.network poller.new.network result }
         ensures not_made { is_bot_due poller.old.table self.old ≡ false →
             (result ≡ None) × (poller.new.network ≡ poller.old.network) }
         ensures left { result ≡ None →
             is_bot_due poller.new.table self.new ≡ false }
         ensures due { IfSome result (λ _.
             is_bot_due poller.old.table self.old ≡ true) }
-        ensures given { IfSome result (λ _. GivesConnection N.transition poller.old.network) }
+        ensures given { IfSome result (λ _. GivesConnection N.transition self.old.descriptors poller.old.network) }
         ensures table { ChangesRows (λ key. key ≡ listener_key poller.old.table) poller.old.table poller.new.table }
     {
         if !self.is_due(&poller.table) {
             return None;
         }
         let key = poller.table.listener_key();
-        match poller.network.accept() {
+        match poller.accept(self.descriptors) {
             Ok(came) => {
                 self.listener.note_accept(&mut poller.table, key, None);
                 Some(came)
@@ -184,7 +196,7 @@ impl Acceptor {
     ///
     /// `none`: no bot is counted.
     ///
-    /// `once`: if an accept is due, exactly one is made, and then the network at most follows its connection.
+    /// `once`: if an accept is due, exactly one is tried, and then the network at most follows its connection.
     ///
     /// `not_made`, `due`: if none is due, or if all numbers are given, no call is made, and no bot is returned.
     ///
@@ -210,17 +222,17 @@ impl Acceptor {
             × (bot.0 ≡ bot_from self.new.came bot.0.address poller.old.table.reading) × IsFresh bot.1.stream) }
         ensures none { IfErr result (λ _. self.new.came ≡ self.old.came) }
         ensures once { is_bot_due poller.old.table self.old ≡ true →
-            self.old.came < u32.MAX → AcceptsOneBot N.transition poller.old.network poller.new.network }
+            self.old.came < u32.MAX → AcceptsOneBot N.transition self.old.descriptors poller.old.network poller.new.network }
         ensures not_made { (self.old.came < u32.MAX →
             is_bot_due poller.old.table self.old ≡ false) →
             poller.new.network ≡ poller.old.network }
         ensures due { IfOk result (λ _. (self.old.came < u32.MAX)
             × (is_bot_due poller.old.table self.old ≡ true)) }
-        ensures accepted { IfOk result (λ bot. BringsBot N.transition bot.0.address key bot.1.stream.stream poller.old.network
+        ensures accepted { IfOk result (λ bot. BringsBot N.transition self.old.descriptors bot.0.address key bot.1.stream.stream poller.old.network
             poller.new.network) }
         ensures kept { IfErr result (λ _. self.old.came < u32.MAX →
             is_bot_due poller.old.table self.old ≡ true →
-            HasRoomForOne present.old → BringsNoBot N.transition
+            HasRoomForOne present.old → BringsNoBot N.transition self.old.descriptors
             (λ address. may_come rules.entry.0.now rules.entry.1 (hosts_of present.old.bots.items) (host_of (socket_ip address)))
             poller.old.network poller.new.network) }
         ensures clock { poller.new.table.reading ≡ poller.old.table.reading }
@@ -231,7 +243,7 @@ impl Acceptor {
         ensures awaited { self.new.awaits_bots ≡ self.old.awaits_bots }
         ensures left { IfErr result (λ _. self.old.came < u32.MAX →
             is_bot_due poller.new.table self.new ≡ true →
-            GivesConnection N.transition poller.old.network) }
+            GivesConnection N.transition self.old.descriptors poller.old.network) }
         ensures refused { result ≡ Err None → self.old.came < u32.MAX →
             is_bot_due poller.new.table self.new ≡ true →
             Pauses poller.old.table.reading ErrorKind.Other None }

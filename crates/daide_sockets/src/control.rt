@@ -29,6 +29,9 @@ use std::time::{Duration, Instant};
 /// The most control connections at once. Further ones wait in the system's queue.
 pub const MOST_CONTROLS: usize = 4;
 
+/// The descriptors that must be free for an accept: for the connection, and one more, so that it never takes the last.
+const CONTROL_DESCRIPTORS: usize = 2;
+
 /// The number of seconds after which a control connection is closed.
 const CONTROL_SECONDS: u64 = 2;
 
@@ -240,8 +243,8 @@ impl<S: Duplex + Drop> Slots<S> {
     }
 }
 
-/// Accepts a connection, has it followed under this key, and returns it. Returns `None` if there is none, or if the system
-/// refuses. Makes no call if the listener is not ready, or during the pause after a refusal.
+/// Accepts a connection, has it followed under this key, and returns it. Returns `None` if there is none, if a descriptor is
+/// missing, or if the system refuses. Makes no call if the listener is not ready, or during the pause after a refusal.
 fn accept_from<N: Network>(
     listener: &mut Listener,
     poller: &mut Poller<N>,
@@ -257,6 +260,10 @@ fn accept_from<N: Network>(
 {
     let own = poller.table.control_key();
     if !listener.is_due(&poller.table, own) {
+        return None;
+    }
+    if let Err(error) = poller.network.check_descriptors(CONTROL_DESCRIPTORS) {
+        listener.note_accept(&mut poller.table, own, Some(error.kind()));
         return None;
     }
     let mut connection = match poller.network.accept_control() {

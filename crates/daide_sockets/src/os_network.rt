@@ -1,9 +1,7 @@
 //! The network of the operating system: `Network` over `mio` and `std`.
 //!
 //! No clause says what the system does, so this module is trusted. Each call passes on what it is given, and returns what
-//! the system returns. One thing is decided here: an accept is made only while further descriptors are free. For a bot
-//! these are one for the connect to its server, and one more if its session has a record; for a control connection it is
-//! one, so that it never takes the last. Without them the accept fails with the system's error, and the connection waits.
+//! the system returns. Nothing is decided here.
 
 use crate::connection::Connection;
 use daide_io::network::{ConnectReport, Network, SocketEvent};
@@ -31,8 +29,6 @@ pub struct OsNetwork<'r, R: Clock + Net> {
     events: Events,
     /// Further descriptors, while it is checked that they are free.
     probes: Vec<Registry>,
-    /// Whether each session has a record, whose file takes a descriptor.
-    is_recorded: bool,
 }
 
 /// Why there is no network.
@@ -65,7 +61,7 @@ fn undelayed(stream: TcpStream) -> Connection {
 }
 
 impl<'r, R: Clock + Net> OsNetwork<'r, R> {
-    /// Creates a network with this listener for bots, without a control socket and without records. Allocates its
+    /// Creates a network with this listener for bots, without a control socket. Allocates its
     /// descriptors and its memory at once: a poll reports at most `events`.
     ///
     /// Fails with `System`, then with `Memory`.
@@ -94,13 +90,7 @@ impl<'r, R: Clock + Net> OsNetwork<'r, R> {
             poll,
             events,
             probes: Vec::new(alloc),
-            is_recorded: false,
         })
-    }
-
-    /// Has each accept make sure of a descriptor for the file of a record.
-    pub fn set_recorded(&mut self) {
-        self.is_recorded = true;
     }
 
     /// Takes this many further descriptors.
@@ -155,16 +145,9 @@ impl<R: Clock + Net> Network for OsNetwork<'_, R> {
         checked
     }
 
-    // The descriptors are free again once it returns.
     fn accept(&mut self) -> io::Result<(Connection, SocketAddr)> {
         let Some(listener) = &self.listener else {
             return Err(ErrorKind::WouldBlock.into());
-        };
-        let _for_the_server = self.registry.try_clone()?;
-        let _for_the_record = if self.is_recorded {
-            Some(self.registry.try_clone()?)
-        } else {
-            None
         };
         let (stream, address) = listener.accept()?;
         Ok((undelayed(stream), address))
@@ -188,7 +171,6 @@ impl<R: Clock + Net> Network for OsNetwork<'_, R> {
         let Some(listener) = &self.control else {
             return Err(ErrorKind::WouldBlock.into());
         };
-        let _spare = self.registry.try_clone()?;
         let (stream, _address) = listener.accept()?;
         Ok(Connection::Control(stream))
     }

@@ -5,6 +5,7 @@ ghost use Rattle.std.specs.declared.time.Duration.{Duration};
 ghost use Rattle.std.specs.declared.time.Instant.{Instant};
 ghost use Rattle.daide_io.specs.Network.{Follows, ReadsClock};
 ghost use Rattle.daide_io.specs.ReadyQueue.{woken_all};
+ghost use Rattle.daide_sockets.specs.Accepting.{AcceptsBeside};
 ghost use Rattle.daide_sockets.specs.Table.{PollsOnce, IsPollTime, freed};
 ghost use Rattle.daide_sockets.specs.Wakeups.{PollsPlaces};
 
@@ -12,6 +13,8 @@ use crate::table::SocketTable;
 use daide_io::network::{Network, SocketEvent};
 use daide_io::ready_queue::ReadyQueue;
 use std::alloc::{AllocError, Allocator, Global};
+use std::io;
+use std::net::SocketAddr;
 use std::time::Duration;
 
 /// The most events that one poll receives; further ones are received by the next.
@@ -53,6 +56,20 @@ impl<N: Network> Poller<N> {
     {
         self.table.release(key);
         self.network.follow(connection, key)
+    }
+
+    /// Accepts a connection, if this many further descriptors are free. Fails with the system's own error.
+    pub(crate) fn accept(
+        &mut self,
+        descriptors: usize,
+    ) -> io::Result<(N::Connection, SocketAddr)>
+        ensures calls { AcceptsBeside N.transition descriptors self.old.network self.new.network result }
+        ensures table { self.new.table ≡ self.old.table }
+    {
+        match self.network.check_descriptors(descriptors) {
+            Ok(()) => self.network.accept(),
+            Err(error) => Err(error),
+        }
     }
 
     /// Returns the time of a poll: none at all if it may not block, or if something that is watched has work; otherwise the

@@ -11,7 +11,7 @@ ghost use Rattle.daide_io.specs.System.{Polls, Shows, Accepts, Connects, BeginsT
 ghost use Rattle.daide_status.specs.declared.snapshot.SessionRow.{SessionRow};
 ghost use Rattle.daide_settings.specs.BotsInAll.{bots_in_all};
 ghost use Rattle.daide_settings.specs.Ranges.{host_of, may_come};
-ghost use Rattle.daide_sockets.specs.Accepting.{is_bot_due, round_begun, BringsNoBot, HasConnected, IsUnreached};
+ghost use Rattle.daide_sockets.specs.Accepting.{descriptors_for, is_bot_due, round_begun, BringsNoBot, HasConnected, IsUnreached};
 ghost use Rattle.daide_sockets.specs.PollTimes.{listener_armed, others_armed};
 ghost use Rattle.daide_sockets.specs.Capacity.{capacity_after};
 ghost use Rattle.daide_sockets.specs.ControlSlots.{Each, PlaceShows, places, arming_control};
@@ -72,7 +72,8 @@ use std::time::Duration;
 /// past. It polls once, and watches the listener and each closing socket (`PollsForRun`) beside the places and the control
 /// socket. It blocks only if it may, and if nothing of these has work, until the nearest deadline. What it reported of a place
 /// stays in its rows until the session takes it. With a free place, exactly one accept is made if the listener is ready
-/// (`accept_next`: `made`), and no other call but connects for its bot. No other call of these sockets accepts one (`GoesBy`). If it
+/// (`accept_next`: `made`) while the descriptors for its connection, its connect and its record are free, and no other call but
+/// connects for its bot. No other call of these sockets accepts one (`GoesBy`). If it
 /// brings no bot, it failed, or its bot may not come, or the system refused to follow its connection (`kept`). From then on the next poll is for bots too (`awaited`), so it does
 /// not block while an accept is due. A bot is accepted only if it may come by the settings, beside the hosts of those that are
 /// there. What is judged is the address that the network returned with its connection (`accept`: `admitted`). A bot that comes
@@ -215,6 +216,15 @@ impl<'w, N: Network, E: Write + Drop> Sockets<'w, N, E> {
         ensures { self.new ≡ record self.old { is_verbose = is_verbose } }
     {
         self.is_verbose = is_verbose;
+    }
+
+    /// Has each accept make sure of a descriptor for the file of a record, too, or not.
+    pub fn set_recorded(&mut self, is_recorded: bool)
+        ensures { self.new ≡ record self.old {
+          acceptor = record self.old.acceptor { descriptors = descriptors_for is_recorded };
+        } }
+    {
+        self.acceptor.set_recorded(is_recorded);
     }
 
     /// Logs a line of a session, if sessions are logged.
@@ -491,7 +501,7 @@ impl<'w, N: Network, E: Write + Drop> System<SocketPorts<'w, N::Connection>> for
             self.old.arrivals.items self.old.closings) (Accepts place result)
             (run_state (self.new.poller.network, self.new.poller.table) (self.new.idle_time, self.new.stall_time) self.new.acceptor
             self.new.arrivals.items self.new.closings) }
-        ensures admitted { result ≡ true → (address : SocketAddr) × AdmitsBot N.transition self.old.servers.now
+        ensures admitted { result ≡ true → (address : SocketAddr) × AdmitsBot N.transition self.old.acceptor.descriptors self.old.servers.now
             (self.old.allow.now, self.old.max_per_address) self.old.poller.table.reading place self.new.acceptor.came address
             (self.old.poller.network, self.old.arrivals.items, self.old.present)
             (self.new.poller.network, self.new.arrivals.items, self.new.present) }
@@ -499,7 +509,7 @@ impl<'w, N: Network, E: Write + Drop> System<SocketPorts<'w, N::Connection>> for
         ensures kept { result ≡ false → place < length self.old.poller.table.deadlines →
             is_vacant self.old.arrivals.items place ≡ true →
             self.old.acceptor.came < u32.MAX → is_bot_due self.old.poller.table self.old.acceptor ≡ true → HasRoomForOne self.old.present →
-            BringsNoBot N.transition (λ address. may_come self.old.allow.now self.old.max_per_address
+            BringsNoBot N.transition self.old.acceptor.descriptors (λ address. may_come self.old.allow.now self.old.max_per_address
             (hosts_of self.old.present.bots.items) (host_of (socket_ip address))) self.old.poller.network
             self.new.poller.network }
         ensures same { self.new ≡ record self.old {

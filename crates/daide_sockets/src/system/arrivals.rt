@@ -146,7 +146,7 @@ impl<'w, N: Network, E: Write + Drop> Sockets<'w, N, E> {
         ensures made { place < length self.old.poller.table.deadlines →
             is_vacant self.old.arrivals.items place ≡ true →
             self.old.acceptor.came < u32.MAX → is_bot_due self.old.poller.table self.old.acceptor ≡ true →
-            AcceptsThenConnects N.transition self.old.servers.now (key_of place Server) self.old.poller.network self.new.poller.network }
+            AcceptsThenConnects N.transition self.old.acceptor.descriptors self.old.servers.now (key_of place Server) self.old.poller.network self.new.poller.network }
         ensures not_made { (place < length self.old.poller.table.deadlines →
             is_vacant self.old.arrivals.items place ≡ true →
             self.old.acceptor.came < u32.MAX → is_bot_due self.old.poller.table self.old.acceptor ≡ false) →
@@ -154,18 +154,18 @@ impl<'w, N: Network, E: Write + Drop> Sockets<'w, N, E> {
         ensures kept { IfNone result (place < length self.old.poller.table.deadlines →
             is_vacant self.old.arrivals.items place ≡ true →
             self.old.acceptor.came < u32.MAX → is_bot_due self.old.poller.table self.old.acceptor ≡ true → HasRoomForOne self.old.present →
-            BringsNoBot N.transition (λ address. may_come self.old.allow.now self.old.max_per_address
+            BringsNoBot N.transition self.old.acceptor.descriptors (λ address. may_come self.old.allow.now self.old.max_per_address
             (hosts_of self.old.present.bots.items) (host_of (socket_ip address))) self.old.poller.network
             self.new.poller.network) }
         ensures awaited { self.new.acceptor.awaits_bots ≡ true }
         ensures left { IfNone result (place < length self.old.poller.table.deadlines →
             is_vacant self.old.arrivals.items place ≡ true →
             self.old.acceptor.came < u32.MAX → is_bot_due self.new.poller.table self.new.acceptor ≡ true →
-            GivesConnection N.transition self.old.poller.network) }
+            GivesConnection N.transition self.old.acceptor.descriptors self.old.poller.network) }
         ensures times { IfSome result (λ _. ComesWith self.old.arrivals.items place self.old.poller.table.reading
             (as_nanos self.old.im_time) (as_nanos self.old.connect_time) self.new.arrivals.items) }
         ensures admitted { IfSome result (λ began. (address : SocketAddr)
-            × (began ≡ SessionNotice.Began self.new.acceptor.came address) × AdmitsBot N.transition self.old.servers.now
+            × (began ≡ SessionNotice.Began self.new.acceptor.came address) × AdmitsBot N.transition self.old.acceptor.descriptors self.old.servers.now
             (self.old.allow.now, self.old.max_per_address) self.old.poller.table.reading place self.new.acceptor.came address
             (self.old.poller.network, self.old.arrivals.items, self.old.present)
             (self.new.poller.network, self.new.arrivals.items, self.new.present)) }
@@ -224,7 +224,7 @@ impl<'w, N: Network, E: Write + Drop> Sockets<'w, N, E> {
             self.old.arrivals.items self.old.closings) (Accepts place result)
             (run_state (self.new.poller.network, self.new.poller.table) (self.new.idle_time, self.new.stall_time) self.new.acceptor
             self.new.arrivals.items self.new.closings) }
-        ensures admitted { result ≡ true → (address : SocketAddr) × AdmitsBot N.transition self.old.servers.now
+        ensures admitted { result ≡ true → (address : SocketAddr) × AdmitsBot N.transition self.old.acceptor.descriptors self.old.servers.now
             (self.old.allow.now, self.old.max_per_address) self.old.poller.table.reading place self.new.acceptor.came address
             (self.old.poller.network, self.old.arrivals.items, self.old.present)
             (self.new.poller.network, self.new.arrivals.items, self.new.present) }
@@ -232,7 +232,7 @@ impl<'w, N: Network, E: Write + Drop> Sockets<'w, N, E> {
         ensures kept { result ≡ false → place < length self.old.poller.table.deadlines →
             is_vacant self.old.arrivals.items place ≡ true →
             self.old.acceptor.came < u32.MAX → is_bot_due self.old.poller.table self.old.acceptor ≡ true → HasRoomForOne self.old.present →
-            BringsNoBot N.transition (λ address. may_come self.old.allow.now self.old.max_per_address
+            BringsNoBot N.transition self.old.acceptor.descriptors (λ address. may_come self.old.allow.now self.old.max_per_address
             (hosts_of self.old.present.bots.items) (host_of (socket_ip address))) self.old.poller.network
             self.new.poller.network }
         ensures same { self.new ≡ record self.old {

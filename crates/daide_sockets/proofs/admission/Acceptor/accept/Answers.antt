@@ -9,14 +9,14 @@ returns-then-not-is_due-clause-table g c = changes_none _ _ _ refl
 pub returns-in-Ok-clause-once : goal.returns-in-Ok-clause-once
 returns-in-Ok-clause-once g c = λ due. record {
   accepted = c.accept.result;
-  call = c.accept.ensures;
+  call = c.accept.ensures.calls;
   given = rw c.in-Ok.is refl;
 }
 
 pub returns-in-Err-clause-once : goal.returns-in-Err-clause-once
 returns-in-Err-clause-once g c = λ due. record {
   accepted = c.accept.result;
-  call = c.accept.ensures;
+  call = c.accept.ensures.calls;
   given = rw c.in-Err.is refl;
 }
 
@@ -33,3 +33,10 @@ pub returns-in-Err-clause-table : goal.returns-in-Err-clause-table
 returns-in-Err-clause-table g c =
     changes_more _ _ _ _ (λ row is. rw (← c.listener_key-key.ensures.key) is)
     (report_changes _ _ _ c.note_accept-in-Err.ensures.table)
+
+pub returns-in-Ok-clause-given : goal.returns-in-Ok-clause-given
+returns-in-Ok-clause-given g c = record {
+  came = c.in-Ok.came;
+  mid = c.accept.new.self.network;
+  call = rw c.in-Ok.is at c.accept.ensures.calls;
+}

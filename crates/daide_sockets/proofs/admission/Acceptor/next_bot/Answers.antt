@@ -6,36 +6,36 @@ use Rattle.daide_sockets.proofs.admission.Acceptor.next_bot.Goals as goal
 
 pub returns-in_default-new-clause-once : goal.returns-in_default-new-clause-once
 returns-in_default-new-clause-once g c = λ due few.
-    accepts_one g.N.Network.transition _ _ _ _ (c.in-Some-accept.ensures.once due)
+    accepts_one g.N.Network.transition c.args.self.now.descriptors _ _ _ _ (c.in-Some-accept.ensures.once due)
     (inr (c.args.key, false, c.in_default-new.ensures.refused.0, c.in_default-new.ensures.refused.1))
 
 pub returns-then-not-add-clause-once : goal.returns-then-not-add-clause-once
 returns-then-not-add-clause-once g c = λ due few.
-    accepts_one g.N.Network.transition _ _ _ _ (c.in-Some-accept.ensures.once due)
+    accepts_one g.N.Network.transition c.args.self.now.descriptors _ _ _ _ (c.in-Some-accept.ensures.once due)
     (inr (c.args.key, true, _, rw c.in-Some-new.is at c.new.ensures.followed))
 
 pub returns-clause-once : goal.returns-clause-once
 returns-clause-once g c = λ due few.
-    accepts_one g.N.Network.transition _ _ _ _ (c.in-Some-accept.ensures.once due)
+    accepts_one g.N.Network.transition c.args.self.now.descriptors _ _ _ _ (c.in-Some-accept.ensures.once due)
     (inr (c.args.key, true, _, rw c.in-Some-new.is at c.new.ensures.followed))
 
 pub returns-clause-accepted : goal.returns-clause-accepted
 returns-clause-accepted g c =
-    brings_bot g.N.Network.transition c.in-Some-accept.stream c.in-Some-accept.address c.args.key _ _ _ _
+    brings_bot g.N.Network.transition c.args.self.now.descriptors c.in-Some-accept.stream c.in-Some-accept.address c.args.key _ _ _ _
     (c.in-Some-accept.ensures.once c.in-Some-accept.ensures.due) (rw c.in-Some-new.is at c.new.ensures.followed)
 
 pub returns-in_default-accept-clause-kept : goal.returns-in_default-accept-clause-kept
 returns-in_default-accept-clause-kept g c = λ few due places.
-    brings_none g.N.Network.transition _ _ _ (c.in_default-accept.ensures.once due)
+    brings_none g.N.Network.transition c.args.self.now.descriptors _ _ _ (c.in_default-accept.ensures.once due)
 
 pub returns-then-not-may_come-clause-kept : goal.returns-then-not-may_come-clause-kept
 returns-then-not-may_come-clause-kept g c = λ few due places.
-    brings_declined g.N.Network.transition _ _ _ (c.in-Some-accept.stream, c.in-Some-accept.address)
+    brings_declined g.N.Network.transition c.args.self.now.descriptors _ _ _ (c.in-Some-accept.stream, c.in-Some-accept.address)
     (c.in-Some-accept.ensures.once due) (search rules)
 
 pub returns-in_default-new-clause-kept : goal.returns-in_default-new-clause-kept
 returns-in_default-new-clause-kept g c = λ few due places.
-    brings_refused g.N.Network.transition _ _ _ (c.in-Some-accept.stream, c.in-Some-accept.address) _ c.args.key
+    brings_refused g.N.Network.transition c.args.self.now.descriptors _ _ _ (c.in-Some-accept.stream, c.in-Some-accept.address) _ c.args.key
     c.in_default-new.ensures.refused.0 (c.in-Some-accept.ensures.once due) c.in_default-new.ensures.refused.1
 
 -- nothing is both

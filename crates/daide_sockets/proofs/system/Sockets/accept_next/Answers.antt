@@ -67,7 +67,7 @@ returns-in-Err-clause-made g c =
     (λ lt free few due. record {
       mid = c.next_bot-next.new.poller.network;
       accepts = c.next_bot-next.ensures.once (rw c.await_bots.ensures due) (rw c.await_bots.ensures few);
-      count = 0;
+      tried = 0;
       connects = refl;
     })
 
@@ -78,7 +78,7 @@ returns-clause-made g c = λ lt free few due.
     rw c.put_arrival.ensures.same (record {
       mid = c.next_bot-next.new.poller.network;
       accepts = c.next_bot-next.ensures.once (rw c.await_bots.ensures due) (rw c.await_bots.ensures few);
-      count = c.new-arrival.result.tried;
+      tried = c.new-arrival.result.tried;
       connects = rw server at c.new-arrival.ensures.calls;
     })
 
