@@ -138,22 +138,8 @@ pub(crate) fn run_on<
         return Err(RunFault::Memory);
     };
     sockets.set_verbose(reports.is_verbose);
+    sockets.set_recorded(reports.folder.is_some());
     ending_of(serve_opened(rt, settings, reports.folder, &mut sockets, output))
-}
-
-/// Logs the beginning of a run (`log_beginning`). If its sessions are recorded, the network also makes sure of a
-/// descriptor for the file of each record.
-fn begin<R: Clock + Net, F: Files, E: Write>(
-    settings: &Settings,
-    reports: &SessionReports<'_, F>,
-    chosen: Option<SocketAddr>,
-    network: &mut OsNetwork<'_, R>,
-    errors: &mut E,
-) {
-    if reports.folder.is_some() {
-        network.set_recorded();
-    }
-    log_beginning(reports.is_verbose, chosen, settings, errors);
 }
 
 /// Serves over sockets at the addresses of the settings: binds, and serves on what is bound (`run_on`). The file of
@@ -180,13 +166,13 @@ fn serve_sockets<
     let bound = bind(rt, settings).map_err(RunFault::Gateway)?;
     let _file = control_file(rt, settings);
     let BoundSockets {
-        mut network,
+        network,
         chosen,
         servers,
         table,
         pool,
     } = bound;
-    begin(settings, &reports, chosen, &mut network, errors);
+    log_beginning(reports.is_verbose, chosen, settings, errors);
     let resources = (network, servers.as_slice(), table, &pool);
     run_on(rt, settings, reports, resources, output, errors)
 }
