@@ -59,10 +59,7 @@ impl<N: Network> Poller<N> {
     }
 
     /// Accepts a connection, if this many further descriptors are free. Fails with the system's own error.
-    pub(crate) fn accept(
-        &mut self,
-        descriptors: usize,
-    ) -> io::Result<(N::Connection, SocketAddr)>
+    pub(crate) fn accept(&mut self, descriptors: usize) -> io::Result<(N::Connection, SocketAddr)>
         ensures calls { AcceptsBeside N.transition descriptors self.old.network self.new.network result }
         ensures table { self.new.table ≡ self.old.table }
     {
