@@ -9,7 +9,7 @@ use Rattle.daide_buffered_io.specs.declared.readiness.Readiness.{Readiness}
 use Rattle.daide_sockets.specs.declared.admission.Acceptor.{Acceptor}
 use Rattle.daide_sockets.specs.declared.listener.Listener.{Listener}
 use Rattle.daide_sockets.specs.Accepting.{is_accept_made, is_accept_due, is_bot_due, accept_pause, connection_given, shut_if}
-use Rattle.daide_sockets.specs.Accepting.{AcceptsBeside, AcceptsOnce, AcceptsOneBot, BringsBot, BringsNoBot, GivesConnection, FollowsAtMostOnce, FollowsAccepted, ConnectsOnce, ConnectsFrom}
+use Rattle.daide_sockets.specs.Accepting.{AcceptsBeside, AcceptsOnce, AcceptsOneBot, BringsBot, BringsNoBot, FollowsAtMostOnce, FollowsAccepted, ConnectsOnce, ConnectsFrom}
 use Rattle.daide_sockets.specs.Accepting.{Fails, MayNotCome, IsRefused, TriesOn, IsUnreached, IsLate, TriedAll}
 use Rattle.daide_sockets.specs.Table.{Table, freed, listener_key, report_at, without_report}
 use Rattle.daide_sockets.specs.KeptRows.{ChangesRows}
@@ -106,10 +106,6 @@ module _ {N C : Type 0} (transition : N → NetworkCall C → N → Type 0) (cou
   accepts : (came : C × SocketAddr) (old mid : N) → AcceptsOnce transition count old mid (Some came) →
       AcceptsBeside transition count old mid (Ok came)
   accepts came old mid once = rw (accepted_is once.accepted came once.given) at once.call
-
-  pub gives : (came : C × SocketAddr) (old mid : N) → AcceptsOnce transition count old mid (Some came) →
-      GivesConnection transition count old
-  gives came old mid once = record { came = came; mid = mid; call = accepts came old mid once }
 
   pub brings_bot : (given : C) (address : SocketAddr) (key : ℕ) (connection : C) (old mid new : N) →
       AcceptsOnce transition count old mid (Some (given, address)) → transition mid (Follows given key true connection) new →

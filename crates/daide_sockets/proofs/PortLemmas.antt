@@ -1,11 +1,10 @@
 -- The calls of a session's ports, by what they do to the sockets of its sides.
-use Rattle.std.proofs.Common.{◌≡◌, ℕ, List, [], length, Option, take, refl, sym}
+use Rattle.std.proofs.Common.{ℕ, List, [], Option, take, refl}
 use Rattle.std.specs.declared.time.Instant.{Instant}
 use Rattle.daide_frame.specs.declared.side.Side.{Side}
 use Rattle.daide_frame.specs.declared.side.Side.TheVariants.{Bot, Server}
-use Rattle.daide_frame.specs.PerSide.{PerSide, at, put}
+use Rattle.daide_frame.specs.PerSide.{PerSide, at}
 use Rattle.daide_frame.specs.Side.{other}
-use Rattle.daide_frame.proofs.PerSideLemmas.{at_put, put_there}
 use Rattle.daide_io.specs.declared.ports.Pull.{Pull}
 use Rattle.daide_io.specs.declared.ports.Put.{Put}
 use Rattle.daide_io.specs.Ports.{Pulled, Offered, pulled_len}
@@ -19,11 +18,6 @@ use Rattle.daide_sockets.specs.declared.socket.Socket.{Socket}
 use Rattle.daide_sockets.specs.Timers.{FlushesInTime, PortsEvolve, PullsInTime, PutsInTime, SameClock, streams_of, timers_of}
 use Rattle.daide_sockets.specs.Wakeups.{IsOffered, IsPulled, StaysUnread}
 use Rattle.daide_sockets.proofs.SocketLemmas.{same_in_time, same_unread}
-
--- a write to the peer leaves what was written to a side
-pub put_back : {A : Type 0} (b : PerSide A) (side : Side) (x y : A) → at (put (put b side x) (other side) y) side ≡ x
-put_back b Bot x y = refl
-put_back b Server x y = refl
 
 module _ {S : Type 0} (to_give taken : S → Option (List ℕ)) (calls : S → Option (List StreamCall)) where
   -- a socket that a call does not name: at most what is held for it is written

@@ -119,21 +119,21 @@ is_listener_due table None = false
 is_listener_due table (Some listener) = is_control_due table listener
 
 -- the descriptors that an accept of a control connection needs: for it, and one more, so that it never takes the last
-abbrev pub control_descriptors : ℕ
-control_descriptors = 2
+abbrev pub accept_descriptors : ℕ
+accept_descriptors = 2
 
 -- What one accept of a control connection brings: none if descriptors are missing, or if it failed. Otherwise the connection
 -- that it gave is followed under this key, and comes unless the system refuses.
 pub data BringsControl {N C : Type 0} (transition : N → NetworkCall C → N → Type 0) (key : ℕ) (old new : N) (came : Option C) :
     Type 0 where
-  LacksDescriptors : (error : Error) → transition old (ChecksDescriptors control_descriptors (Err error)) new → came ≡ None →
+  LacksDescriptors : (error : Error) → transition old (ChecksDescriptors accept_descriptors (Err error)) new → came ≡ None →
       BringsControl transition key old new came
-  Fails : (free : N) (error : Error) → transition old (ChecksDescriptors control_descriptors (Ok tt)) free →
+  Fails : (free : N) (error : Error) → transition old (ChecksDescriptors accept_descriptors (Ok tt)) free →
       transition free (AcceptsControl (Err error)) new → came ≡ None → BringsControl transition key old new came
-  IsFollowed : (free mid : N) (given after : C) → transition old (ChecksDescriptors control_descriptors (Ok tt)) free →
+  IsFollowed : (free mid : N) (given after : C) → transition old (ChecksDescriptors accept_descriptors (Ok tt)) free →
       transition free (AcceptsControl (Ok given)) mid → transition mid (Follows given key true after) new →
       came ≡ Some after → BringsControl transition key old new came
-  IsRefused : (free mid : N) (given after : C) → transition old (ChecksDescriptors control_descriptors (Ok tt)) free →
+  IsRefused : (free mid : N) (given after : C) → transition old (ChecksDescriptors accept_descriptors (Ok tt)) free →
       transition free (AcceptsControl (Ok given)) mid → transition mid (Follows given key false after) new →
       came ≡ None → BringsControl transition key old new came
 

@@ -67,7 +67,7 @@ impl IdleTimeout {
 ///
 /// `in_time`: a pull ends no stall timeout.
 fn pull_in_time<S: Duplex + Drop>(
-    idle: IdleTimeout,
+    idle: &IdleTimeout,
     socket: &mut Socket<'_, S>,
     buffer: &mut [u8],
 ) -> Pull
@@ -77,18 +77,18 @@ fn pull_in_time<S: Duplex + Drop>(
     // a side that does not count as ended by a timeout is reported as its stream is read; one that is late is read once
     ensures asked { socket.new.timed.is_silent ≡ false → socket.new.timed.ends_stalled ≡ false →
         IsBufferedPull S.calls (length buffer.old)
-        (read_if (has_stalled idle.time idle.reading socket.old.silent_from) socket.old.readiness)
+        (read_if (has_stalled idle.now.time idle.now.reading socket.old.silent_from) socket.old.readiness)
         socket.old.stream result socket.new.readiness socket.new.stream }
     // a side is marked as silent or stalled only with an end, and without an idle timeout never as silent
     ensures silent { result ≢ Pull.Ended → socket.new.timed ≡ socket.old.timed }
-    ensures patient { IsNone idle.time → socket.new.timed.is_silent ≡ socket.old.timed.is_silent }
+    ensures patient { IsNone idle.now.time → socket.new.timed.is_silent ≡ socket.old.timed.is_silent }
     // a timeout that is not over ends nothing, and one that is over ends a side that sends nothing
-    ensures early { has_stalled idle.time idle.reading socket.old.silent_from ≡ false →
+    ensures early { has_stalled idle.now.time idle.now.reading socket.old.silent_from ≡ false →
         socket.new.timed.is_silent ≡ socket.old.timed.is_silent }
-    ensures late { has_stalled idle.time idle.reading socket.old.silent_from ≡ true → result ≢ Pull.Idle }
+    ensures late { has_stalled idle.now.time idle.now.reading socket.old.silent_from ≡ true → result ≢ Pull.Idle }
     // the timeout starts again with what a side sends
-    ensures starts { pulled_len result ≢ 0 → IsStallEnd idle.reading idle.time socket.new.silent_from }
-    ensures heard { pulled_len result ≢ 0 → socket.new.heard_at ≡ idle.reading }
+    ensures starts { pulled_len result ≢ 0 → IsStallEnd idle.now.reading idle.now.time socket.new.silent_from }
+    ensures heard { pulled_len result ≢ 0 → socket.new.heard_at ≡ idle.now.reading }
     ensures goes_on { result ≡ Pull.Idle → socket.new.silent_from ≡ socket.old.silent_from }
     ensures stays { socket.old.timed.is_silent ≡ true → socket.new.timed.is_silent ≡ true }
     // a side counts as ended for a stall only if its writes fail for that
@@ -96,7 +96,7 @@ fn pull_in_time<S: Duplex + Drop>(
     ensures ends { socket.old.timed.is_stalled ≡ false → socket.new.timed.ends_stalled ≡ socket.old.timed.ends_stalled }
     // with room, nothing is left that may be read, but for a read that must be tried again
     ensures pulled { IsPulled (length buffer.old) result socket.old socket.new }
-    ensures in_time { PullsInTime idle.reading idle.time result socket.old socket.new }
+    ensures in_time { PullsInTime idle.now.reading idle.now.time result socket.old socket.new }
 {
     let is_late = idle.is_over(socket.silent_from);
     if is_late {
@@ -393,10 +393,11 @@ impl<S: Duplex + Drop> Ports for SocketPorts<'_, S> {
         ensures written { result ≡ Pull.Idle →
             IsFlushedUnlessGathered S.calls (at self.old.sides (other side)) (at self.new.sides (other side)) }
     {
-        let idle = self.idle;
-        let pull = pull_in_time(idle, self.sides.at_mut(side), buffer);
+        let pull = pull_in_time(&self.idle, self.sides.at_mut(side), buffer);
         if pull == Pull::Idle {
-            self.sides.at_mut(other(side)).flush_gathered(idle.reading);
+            self.sides
+                .at_mut(other(side))
+                .flush_gathered(self.idle.reading);
         }
         pull
     }

@@ -22,17 +22,19 @@ returns-in-Err-clause-once g c = λ due. record {
 
 pub returns-in-Err-clause-left : goal.returns-in-Err-clause-left
 returns-in-Err-clause-left g c = λ none.
-    no_bot_due _ _ _ (record c.args.self.now { listener = c.note_accept-in-Err.new.self }) c.note_accept-in-Err.ensures.table c.listener_key-key.ensures.key
+    no_bot_due _ _ _ (record c.args.self.now { listener = c.note_accept-in-Err.new.self })
+    (rw c.accept.ensures.table at c.note_accept-in-Err.ensures.table) c.listener_key-key.ensures.key
     (c.note_accept-in-Err.ensures.left (search rules))
 
 pub returns-in-Ok-clause-table : goal.returns-in-Ok-clause-table
 returns-in-Ok-clause-table g c =
-    changes_more _ _ _ _ (λ row is. rw (← c.listener_key-key.ensures.key) is) (report_changes _ _ _ c.note_accept.ensures.table)
+    changes_more _ _ _ _ (λ row is. rw (← c.listener_key-key.ensures.key) is)
+    (report_changes _ _ _ (rw c.accept.ensures.table at c.note_accept.ensures.table))
 
 pub returns-in-Err-clause-table : goal.returns-in-Err-clause-table
 returns-in-Err-clause-table g c =
     changes_more _ _ _ _ (λ row is. rw (← c.listener_key-key.ensures.key) is)
-    (report_changes _ _ _ c.note_accept-in-Err.ensures.table)
+    (report_changes _ _ _ (rw c.accept.ensures.table at c.note_accept-in-Err.ensures.table))
 
 pub returns-in-Ok-clause-given : goal.returns-in-Ok-clause-given
 returns-in-Ok-clause-given g c = record {

@@ -1,8 +1,16 @@
-use Rattle.std.proofs.Common.{◌≡◌, ◌<◌, Bool, true, false, inr, refl, rules, arith}
+use Rattle.std.proofs.Common.{◌≡◌, ◌<◌, Bool, true, false, inl, inr, refl, rules, arith}
 use Rattle.daide_sockets.proofs.AcceptLemmas.{accepts_one, brings_bot, brings_none, brings_declined, brings_refused}
 use Rattle.daide_sockets.proofs.AcceptLemmas.{listened, listened_followed}
 use Rattle.daide_sockets.proofs.KeptRowLemmas.{changes_none}
 use Rattle.daide_sockets.proofs.admission.Acceptor.next_bot.Goals as goal
+
+pub returns-in_default-accept-clause-once : goal.returns-in_default-accept-clause-once
+returns-in_default-accept-clause-once g c = λ due few.
+    accepts_one g.N.Network.transition c.args.self.now.descriptors _ _ _ _ (c.in_default-accept.ensures.once due) refl
+
+pub returns-then-not-may_come-clause-once : goal.returns-then-not-may_come-clause-once
+returns-then-not-may_come-clause-once g c = λ due few.
+    accepts_one g.N.Network.transition c.args.self.now.descriptors _ _ _ _ (c.in-Some-accept.ensures.once due) (inl refl)
 
 pub returns-in_default-new-clause-once : goal.returns-in_default-new-clause-once
 returns-in_default-new-clause-once g c = λ due few.

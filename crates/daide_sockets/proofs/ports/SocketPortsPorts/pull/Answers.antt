@@ -2,7 +2,7 @@ use Rattle.std.proofs.Common.{length}
 use Rattle.daide_frame.specs.PerSide.{at, put}
 use Rattle.daide_frame.specs.Side.{other}
 use Rattle.daide_frame.proofs.PerSideLemmas.{at_put, put_there}
-use Rattle.daide_sockets.proofs.PortLemmas.{put_back, pulled_ports, same_beside}
+use Rattle.daide_sockets.proofs.PortLemmas.{pulled_ports, same_beside}
 use Rattle.daide_sockets.proofs.ports.SocketPortsPorts.pull.Goals as goal
 
 pub returns-else-eq-clause-transition : goal.returns-else-eq-clause-transition

@@ -40,7 +40,7 @@ returns-clause-admitted g c =
 
 pub returns-in-Err-clause-left : goal.returns-in-Err-clause-left
 returns-in-Err-clause-left g c = λ lt free few due.
-    c.in-Err.ensures.left (rw c.await_bots.ensures few) (rw c.log_declined.ensures at due)
+    rw c.await_bots.ensures at (c.in-Err.ensures.left (rw c.await_bots.ensures few) (rw c.log_declined.ensures at due))
 
 pub returns-then-not-has_place-clause-table : goal.returns-then-not-has_place-clause-table
 returns-then-not-has_place-clause-table g c = changes_none _ _ _ refl
@@ -66,7 +66,7 @@ returns-in-Err-clause-made g c =
     rw c.log_declined.ensures
     (λ lt free few due. record {
       mid = c.next_bot-next.new.poller.network;
-      accepts = c.next_bot-next.ensures.once (rw c.await_bots.ensures due) (rw c.await_bots.ensures few);
+      accepts = rw c.await_bots.ensures at (c.next_bot-next.ensures.once (rw c.await_bots.ensures due) (rw c.await_bots.ensures few));
       tried = 0;
       connects = refl;
     })
@@ -77,7 +77,7 @@ returns-clause-made g c = λ lt free few due.
     let server = key_fits c.args.place _ c.server_key-key.result Server c.server_key-key.ensures has.1 in
     rw c.put_arrival.ensures.same (record {
       mid = c.next_bot-next.new.poller.network;
-      accepts = c.next_bot-next.ensures.once (rw c.await_bots.ensures due) (rw c.await_bots.ensures few);
+      accepts = rw c.await_bots.ensures at (c.next_bot-next.ensures.once (rw c.await_bots.ensures due) (rw c.await_bots.ensures few));
       tried = c.new-arrival.result.tried;
       connects = rw server at c.new-arrival.ensures.calls;
     })
@@ -85,4 +85,5 @@ returns-clause-made g c = λ lt free few due.
 pub returns-in-Err-clause-kept : goal.returns-in-Err-clause-kept
 returns-in-Err-clause-kept g c =
     rw c.log_declined.ensures
-    (λ lt free few due places. c.in-Err.ensures.kept (rw c.await_bots.ensures few) (rw c.await_bots.ensures due) places)
+    (λ lt free few due places.
+    rw c.await_bots.ensures at (c.in-Err.ensures.kept (rw c.await_bots.ensures few) (rw c.await_bots.ensures due) places))
