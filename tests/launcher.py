@@ -62,7 +62,7 @@ stall_seconds = 11
 WAITED = 10
 
 # A program whose run sends the script the signal of its last word at once, and never listens.
-EAGER = DEAF.replace("run) echo", "run) shift $(($# - 1)); kill -s $1 $PPID; echo")
+EAGER = DEAF.replace("&& exec", "&& shift $(($# - 1)) && kill -s $1 $PPID && exec")
 
 KEPT = "daide-gate-unproved"
 GOF = "02 00 00 02 48 03\n"
