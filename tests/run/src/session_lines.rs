@@ -98,7 +98,12 @@ const TIMES: &[(Ending, Timed, Timed, Why)] = &[
 #[test]
 fn times_are_named_in_place_of_the_event(_rt: HostRuntime) -> Result<(), Fail> {
     for (ending, bot, server, want) in TIMES {
-        let why = why_of(Cause::Session(*ending), None, &PerSide::new(*bot, *server), 60);
+        let why = why_of(
+            Cause::Session(*ending),
+            None,
+            &PerSide::new(*bot, *server),
+            60,
+        );
         same(&why, want, ending)?;
     }
     Ok(())
