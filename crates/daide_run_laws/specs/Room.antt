@@ -1,6 +1,7 @@
 -- Room for each bot that a run may accept: the loop's places and counts, against the sockets'. (own)
 use Rattle.std.specs.Prelude.{◌≡◌, ◌≤◌, ◌<◌, ℕ, ◌++◌, Bool, true, List, [], ◌∷◌, length, Option}
 use Rattle.std.specs.declared.net.socket_addr.SocketAddr.{SocketAddr}
+use Rattle.daide_frame.specs.declared.side.Side.TheVariants.{Server}
 use Rattle.daide_io.specs.Network.{NetworkCall}
 use Rattle.daide_io.specs.Ports.{PortCall}
 use Rattle.daide_io.specs.Streams.{StreamCall}
@@ -10,12 +11,13 @@ use Rattle.daide_settings.specs.declared.settings.Settings.{Settings}
 use Rattle.daide_event_loop.specs.Serving.{ServiceView, Round, Rounds, initial_service}
 use Rattle.daide_sockets.specs.Accepting.{is_bot_due, AcceptsThenConnects}
 use Rattle.daide_sockets.specs.Pairing.{is_vacant}
+use Rattle.daide_sockets.specs.Table.{key_of}
 use Rattle.daide_sockets.specs.Scheduling.{RunState, RunEvolves, HasRoomForBot, HoldsRows}
 use Rattle.daide_sockets.specs.declared.ports.SocketPorts.{SocketPorts}
 
 -- Take sockets of a run with no bot yet, whose table has a deadline for each place, any rounds, and one more round that accepts. The sockets have room for the bot
--- at its place: no connect is pending there, and a number is left. So exactly one accept is made if it is due. `ports_in` is the
--- content of ports.
+-- at its place: no connect is pending there, and a number is left. So exactly one accept is made if it is due and its descriptors
+-- are free. `ports_in` is the content of ports.
 abbrev pub EachBotHasRoom : {P S N C : Type 0} → (P → PortCall → P → Type 0) → (N → NetworkCall C → N → Type 0) →
     (S → Option (List ℕ)) → (S → Option (List ℕ)) → (S → Option (List StreamCall)) → (P → SocketPorts S) → Type 0
 EachBotHasRoom {P} {S} {N} port_transition transition to_give taken calls ports_in = (settings : Settings) (n : ℕ)

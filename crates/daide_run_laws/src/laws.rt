@@ -29,7 +29,8 @@ pub fn no_wakeup_is_lost<S: Duplex + Drop, N: Network, W: Sink + Drop>()
 
 /// No bot waits. Take a poll of a run over sockets that may block, after one round or more, while one more bot may be accepted
 /// and a place is free. It takes no time while an accept is due: while the listener is ready and no pause of accepts is under
-/// way, or the pause is over. In each round that accepts exactly one accept is made, if it is due (`each_bot_has_room`).
+/// way, or the pause is over. In each round that accepts exactly one accept is made, if it is due and its descriptors are free
+/// (`each_bot_has_room`).
 pub fn no_bot_waits<S: Duplex + Drop, N: Network, W: Sink + Drop>()
     ensures { NoBotWaits ⟦<Recording<SocketPorts<'static, S>, W> as Ports>⟧.transition (λ ports. timers_of ports.ports)
         N.transition }
@@ -37,8 +38,8 @@ pub fn no_bot_waits<S: Duplex + Drop, N: Network, W: Sink + Drop>()
 
 /// The sockets have room for each bot that the loop may accept. Take a run over sockets with no bot yet, whose closing
 /// streams have rows of their own, any number of rounds, and one more that accepts. No connect is pending at the place that
-/// the loop chose, and a number is left for the bot (`HasRoomForBot`). So exactly one accept is made whenever it is due,
-/// and then only connects for its bot (`AcceptsThenConnects`). The rows of both sockets are those of the place.
+/// the loop chose, and a number is left for the bot (`HasRoomForBot`). So exactly one accept is made whenever it is due and its
+/// descriptors are free, and then only connects for its bot (`AcceptsThenConnects`). The rows of both sockets are those of the place.
 ///
 /// A run has at most 2^32 - 1 bots.
 pub fn each_bot_has_room<S: Duplex + Drop, N: Network, W: Sink + Drop>()
