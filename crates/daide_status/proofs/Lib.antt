@@ -1,5 +1,6 @@
 pub mod Aligned
 pub mod Chains
+pub mod Taken
 pub mod TextLemmas
 pub mod RequestFacts
 mod StatusFacts

@@ -1,5 +1,6 @@
--- The status of a run as a table: a line of the run, the names of the columns, and a line for each session. (own)
-use Rattle.std.specs.Prelude.{ℕ, ◌+◌, ◌++◌, List, [], codes, length, max}
+-- The status of a run as a table: a line of the run, one of the server and one of what ended, the names of the columns, and
+-- a line for each session. (own)
+use Rattle.std.specs.Prelude.{ℕ, ◌+◌, ◌++◌, ◌==◌, if◌then◌else◌, List, [], codes}
 use Rattle.std.specs.List.{flat_map}
 use Rattle.std.specs.Fmt.{decimal}
 use Rattle.std.specs.Net.Text.{socket_text}
@@ -8,14 +9,20 @@ use Rattle.daide_grammar.specs.declared.level.Level.TheVariants.{L0, L10, L20, L
 use Rattle.daide_protocol.specs.declared.account.SideCounts.{SideCounts}
 use Rattle.daide_protocol.specs.declared.bot_name.BotName.{BotName}
 use Rattle.daide_protocol.specs.declared.bot_name.BotName.TheVariants.{Unknown, Nme, Iam}
+use Rattle.daide_protocol.specs.declared.account.Counter.{Counter}
+use Rattle.daide_protocol.specs.declared.account.Counter.TheVariants.{Relayed, Prn, Huh}
 use Rattle.daide_protocol.specs.Account.{all_counters, side_count}
-use Rattle.daide_protocol.specs.AccountText.{counter_name}
 use Rattle.daide_protocol.specs.BotName.{name_text}
 use Rattle.daide_protocol.specs.declared.phase.Phase.{Phase}
 use Rattle.daide_protocol.specs.declared.phase.Phase.TheVariants.{WaitIm, WaitRm, Open, Over}
+use Rattle.daide_status.specs.declared.counts.EndCause.{EndCause}
+use Rattle.daide_status.specs.declared.counts.EndCounts.{EndCounts}
+use Rattle.daide_status.specs.declared.counts.RunCounts.{RunCounts}
 use Rattle.daide_status.specs.declared.snapshot.RunStatus.{RunStatus}
+use Rattle.daide_status.specs.declared.snapshot.ServerStatus.{ServerStatus}
 use Rattle.daide_status.specs.declared.snapshot.SessionRow.{SessionRow}
-use Rattle.daide_status.specs.Pieces.{cell, number_or_dash, text_if}
+use Rattle.daide_status.specs.Counts.{all_causes, end_cause_name, end_count}
+use Rattle.daide_status.specs.Pieces.{cell, number_or_dash, server_state_name, text_if}
 
 -- the phase of an open session with its level, in a column of seven bytes
 abbrev pub open_cell : Level → List ℕ
@@ -46,20 +53,46 @@ run_line run =
     totals run ++ text_if run.has_waiting (codes "; bots may wait for a place") ++ text_if run.is_stopping (codes "; stopping")
     ++ codes "\n"
 
+-- the line of the server
+abbrev pub server_line : ServerStatus → List ℕ
+server_line server =
+    codes "server " ++ server_state_name server.state ++ codes " for " ++ decimal server.seconds ++ codes " s, "
+    ++ decimal server.unreached ++ codes " unreached since\n"
+
+-- the number of sessions that ended by a cause, before the cause; nothing if there is none
+abbrev pub ended_item : EndCause → ℕ → List ℕ
+ended_item cause count = if count == 0 then [] else codes ", " ++ decimal count ++ codes " " ++ end_cause_name cause
+
+abbrev pub ended_items : EndCounts → List ℕ
+ended_items ends = flat_map (λ cause. ended_item cause (end_count cause ends)) all_causes
+
+-- the connections that got no session
+abbrev pub no_sessions : RunCounts → List ℕ
+no_sessions c = codes "ended: " ++ decimal c.declined ++ codes " declined, " ++ decimal c.dropped ++ codes " dropped"
+
+-- the line of what ended: connections that got no session, and sessions by cause
+abbrev pub ended_line : RunCounts → List ℕ
+ended_line c = no_sessions c ++ ended_items c.ends ++ codes "\n"
+
 -- the names of the columns, in two lines
 abbrev pub column_names : List ℕ
 column_names =
-    codes "                      from the bot   from the server\n"
-    ++ codes "session  phase   relayed  PRN  HUH relayed  PRN  HUH  to bot to server    bot sent server sent    bot took server took  bot idle server idle   port bot and its name\n"
+    codes "                   from bot   from server     bytes for  bot\n"
+    ++ codes "   no phase   relay PRN HUH relay PRN HUH    bot server idle bot and its name\n"
 
--- the line of the run, and the names of the columns
+-- the lines before the first session
 abbrev pub table_head : RunStatus → List ℕ
-table_head run = run_line run ++ column_names
+table_head run = run_line run ++ server_line run.server ++ ended_line run.counts ++ column_names
 
--- the counts of a side, each in a column as wide as its name, of four bytes at least
+-- the width of the column of a counter
+abbrev pub counter_width : Counter → ℕ
+counter_width Relayed = 5
+counter_width Prn = 3
+counter_width Huh = 3
+
+-- the counts of a side, each in its column
 abbrev pub side_cells : SideCounts → List ℕ
-side_cells c =
-    flat_map (λ counter. cell (max (length (counter_name counter)) 4) (decimal (side_count counter c))) all_counters
+side_cells c = flat_map (λ counter. cell (counter_width counter) (decimal (side_count counter c))) all_counters
 
 -- the name of a bot after its address; nothing if the bot has said none
 abbrev pub name_cell : BotName → List ℕ
@@ -71,23 +104,18 @@ name_cell (Iam power) = codes " " ++ name_text (Iam power)
 abbrev pub bot_cells : SessionRow → List ℕ
 bot_cells row = codes " " ++ socket_text row.bot ++ name_cell row.account.name ++ codes "\n"
 
--- the bytes received from each side, and those sent to each
-abbrev pub byte_cells : SessionRow → List ℕ
-byte_cells row =
-    cell 11 (decimal row.received_from_bot) ++ cell 11 (decimal row.received_from_server)
-    ++ cell 11 (decimal row.sent_to_bot) ++ cell 11 (decimal row.sent_to_server)
+-- the number of a session and its phase
+abbrev pub session_cells : SessionRow → List ℕ
+session_cells row = cell 4 (decimal row.number) ++ codes " " ++ phase_cell row.phase row.level
 
--- the columns of a session before its bot; the bytes for a side are those of the session's queue and those that the
--- side's socket holds
-abbrev pub number_cells : SessionRow → List ℕ
-number_cells row =
-    cell 6 (decimal row.number) ++ codes "  " ++ phase_cell row.phase row.level
-    ++ side_cells row.account.bot ++ side_cells row.account.server
-    ++ cell 7 (decimal (row.queued_to_bot + row.buffered_to_bot))
-    ++ cell 9 (decimal (row.queued_to_server + row.buffered_to_server))
-    ++ byte_cells row ++ number_or_dash 9 row.bot_idle ++ number_or_dash 11 row.server_idle
-    ++ number_or_dash 6 row.port_to_server
+-- the bytes that wait for each side, in the session's queue and in the side's socket, and the seconds since the bot's
+-- last byte
+abbrev pub waiting_cells : SessionRow → List ℕ
+waiting_cells row =
+    cell 6 (decimal (row.queued_to_bot + row.buffered_to_bot))
+    ++ cell 6 (decimal (row.queued_to_server + row.buffered_to_server)) ++ number_or_dash 4 row.bot_idle
 
 -- the line of a session
 abbrev pub table_row : SessionRow → List ℕ
-table_row row = number_cells row ++ bot_cells row
+table_row row =
+    session_cells row ++ side_cells row.account.bot ++ side_cells row.account.server ++ waiting_cells row ++ bot_cells row

@@ -8,11 +8,20 @@ use Rattle.daide_grammar.specs.Level.{level_number}
 use Rattle.daide_protocol.specs.Account.{all_counters, side_count}
 use Rattle.daide_protocol.specs.AccountText.{counter_name}
 use Rattle.daide_protocol.specs.declared.account.Account.{Account}
+use Rattle.daide_protocol.specs.declared.account.SideCounts.{SideCounts}
 use Rattle.daide_protocol.specs.declared.bot_name.BotName.{BotName}
 use Rattle.daide_protocol.specs.declared.bot_name.BotName.TheVariants.{Unknown, Nme, Iam}
+use Rattle.daide_frame.specs.declared.side.Side.TheVariants.{Bot}
+use Rattle.daide_status.specs.declared.counts.EndCause.{EndCause}
+use Rattle.daide_status.specs.declared.counts.EndCause.TheVariants.{Ended}
+use Rattle.daide_status.specs.declared.counts.EndCounts.{EndCounts}
+use Rattle.daide_status.specs.declared.counts.RunCounts.{RunCounts}
+use Rattle.daide_status.specs.declared.counts.Traffic.{Traffic}
 use Rattle.daide_status.specs.declared.snapshot.RunStatus.{RunStatus}
+use Rattle.daide_status.specs.declared.snapshot.ServerStatus.{ServerStatus}
 use Rattle.daide_status.specs.declared.snapshot.SessionRow.{SessionRow}
-use Rattle.daide_status.specs.Pieces.{phase_name, number_or_null, quoted_name}
+use Rattle.daide_status.specs.Counts.{end_cause_name, end_count, other_causes}
+use Rattle.daide_status.specs.Pieces.{phase_name, number_or_null, quoted_name, server_state_name}
 
 -- a flag
 abbrev pub json_flag : Bool → List ℕ
@@ -24,15 +33,21 @@ json_run_counts run =
     codes "{\"open\":" ++ decimal run.open ++ codes ",\"connecting\":" ++ decimal run.connecting
     ++ codes ",\"served\":" ++ decimal run.served ++ codes ",\"unreached\":" ++ decimal run.unreached
 
--- the flags of the run and its seconds, and the beginning of the array of sessions
+-- the flags of the run and its seconds
 abbrev pub json_run_state : RunStatus → List ℕ
 json_run_state run =
     codes ",\"bots_may_wait\":" ++ json_flag run.has_waiting ++ codes ",\"stopping\":" ++ json_flag run.is_stopping
-    ++ codes ",\"seconds\":" ++ decimal run.seconds ++ codes ",\"sessions\":["
+    ++ codes ",\"seconds\":" ++ decimal run.seconds
+
+-- the state of the server, and the beginning of the array of sessions
+abbrev pub json_server : ServerStatus → List ℕ
+json_server server =
+    codes ",\"server\":{\"state\":\"" ++ server_state_name server.state ++ codes "\",\"seconds\":" ++ decimal server.seconds
+    ++ codes ",\"unreached\":" ++ decimal server.unreached ++ codes "},\"sessions\":["
 
 -- the members of the run, and the beginning of the array of sessions
 abbrev pub json_head : RunStatus → List ℕ
-json_head run = json_run_counts run ++ json_run_state run
+json_head run = json_run_counts run ++ json_run_state run ++ json_server run.server
 
 -- the number of a session, its bot's address, its phase and its level
 abbrev pub json_session : SessionRow → List ℕ
@@ -66,11 +81,14 @@ json_sides name bot server =
 abbrev pub json_faults : ℕ → List ℕ
 json_faults faults = codes ",\"faults\":" ++ decimal faults
 
+-- what is counted for each side
+abbrev pub json_counters : SideCounts → SideCounts → List ℕ
+json_counters bot server =
+    flat_map (λ counter. json_sides (counter_name counter) (side_count counter bot) (side_count counter server)) all_counters
+
 -- the counts of a session, by side
 abbrev pub json_counts : Account → List ℕ
-json_counts a =
-    flat_map (λ counter. json_sides (counter_name counter) (side_count counter a.bot) (side_count counter a.server)) all_counters
-    ++ json_faults a.faults
+json_counts a = json_counters a.bot a.server ++ json_faults a.faults
 
 -- the bytes that wait for each side, in the session and in the side's socket
 abbrev pub json_waiting : SessionRow → List ℕ
@@ -100,6 +118,35 @@ abbrev pub json_rows : List SessionRow → List ℕ
 json_rows [] = []
 json_rows (row ∷ rows) = codes "\n" ++ json_row row ++ flat_map (λ other. codes ",\n" ++ json_row other) rows
 
--- the end of the array and of the document
-abbrev pub json_end : List ℕ
-json_end = codes "\n]}\n"
+-- ---- what the run counted
+
+-- the connections that got no session, the end of the array before them, and the frames of all sessions up to their faults
+abbrev pub json_lost : RunCounts → List ℕ
+json_lost c =
+    codes "\n],\"counts\":{\"declined\":" ++ decimal c.declined ++ codes ",\"dropped\":" ++ decimal c.dropped
+    ++ codes ",\"frames\":{\"faults\":" ++ decimal c.faults
+
+-- the bytes of all sessions
+abbrev pub json_traffic : Traffic → List ℕ
+json_traffic t =
+    codes "},\"bytes\":{\"received\":{\"bot\":" ++ decimal t.received_from_bot ++ codes ",\"server\":"
+    ++ decimal t.received_from_server ++ codes "},\"sent\":{\"bot\":" ++ decimal t.sent_to_bot ++ codes ",\"server\":"
+    ++ decimal t.sent_to_server ++ codes "}},\"ends\":{"
+
+-- the number of sessions that ended by a cause
+unfoldable pub json_ended : EndCause → ℕ → List ℕ
+json_ended cause count = codes "\"" ++ end_cause_name cause ++ codes "\":" ++ decimal count
+
+-- each further cause comes after a comma
+unfoldable pub json_further : EndCause → ℕ → List ℕ
+json_further cause count = codes "," ++ json_ended cause count
+
+-- the sessions that ended, by cause
+abbrev pub json_ends : EndCounts → List ℕ
+json_ends e =
+    json_ended (Ended Bot) e.bot_ended ++ flat_map (λ cause. json_further cause (end_count cause e)) other_causes
+
+-- the end of the array, what the run counted, and the end of the document
+abbrev pub json_end : RunCounts → List ℕ
+json_end c =
+    json_lost c ++ json_counters c.bot c.server ++ json_traffic c.traffic ++ json_ends c.ends ++ codes "}}}\n"

@@ -12,6 +12,9 @@ use Rattle.daide_protocol.specs.declared.bot_name.BotName.{BotName}
 use Rattle.daide_protocol.specs.declared.bot_name.BotName.TheVariants.{Unknown, Nme, Iam}
 use Rattle.daide_protocol.specs.declared.phase.Phase.{Phase}
 use Rattle.daide_status.specs.declared.snapshot.RunStatus.{RunStatus}
+use Rattle.daide_status.specs.declared.snapshot.ServerState.{ServerState}
+use Rattle.daide_status.specs.declared.snapshot.ServerState.TheVariants.{Untried, Up, Away}
+use Rattle.daide_status.specs.declared.snapshot.ServerStatus.{ServerStatus}
 use Rattle.daide_status.specs.declared.snapshot.SessionRow.{SessionRow}
 use Rattle.daide_status.specs.Pieces.{phase_name, quoted_name}
 
@@ -42,15 +45,42 @@ waiting_metrics run =
     (flag_number run.is_stopping)
     ++ run_metric (codes "up_seconds") (codes "gauge") (codes "Seconds since the run began.") run.seconds
 
--- the metrics of the run
-abbrev pub metrics_head : RunStatus → List ℕ
-metrics_head run =
-    run_metric (codes "sessions") (codes "gauge") (codes "Sessions that are open.") run.open
-    ++ run_metric (codes "connecting") (codes "gauge") (codes "Bots that wait for a connection to the server.")
-    run.connecting
+-- that the run answers, and which sessions it has
+abbrev pub presence_metrics : RunStatus → List ℕ
+presence_metrics run =
+    run_metric (codes "up") (codes "gauge") (codes "Whether the run answers.") 1
+    ++ run_metric (codes "sessions") (codes "gauge") (codes "Sessions that are open.") run.open
+    ++ run_metric (codes "connecting") (codes "gauge") (codes "Bots that wait for a connection to the server.") run.connecting
+
+-- the number of bots that were accepted: each has a session, is connected, was served, or did not reach the server
+abbrev pub accepted_bots : RunStatus → ℕ
+accepted_bots run = run.open + run.connecting + run.served + run.unreached
+
+-- what became of the bots
+abbrev pub admission_metrics : RunStatus → List ℕ
+admission_metrics run =
+    run_metric (codes "accepted_total") (codes "counter") (codes "Bots that were accepted.") (accepted_bots run)
     ++ run_metric (codes "served_total") (codes "counter") (codes "Sessions that are over.") run.served
-    ++ run_metric (codes "unreached_total") (codes "counter")
-    (codes "Bots for which the server could not be reached.") run.unreached ++ waiting_metrics run
+    ++ run_metric (codes "unreached_total") (codes "counter") (codes "Bots for which the server could not be reached.") run.unreached
+
+-- whether the last connect reached the server; no sample before the first
+abbrev pub server_up_sample : ServerState → List ℕ
+server_up_sample Untried = []
+server_up_sample Up = run_sample (codes "server_up") 1
+server_up_sample Away = run_sample (codes "server_up") 0
+
+-- the state of the server, and the seconds since it began
+abbrev pub server_metrics : ServerStatus → List ℕ
+server_metrics server =
+    metric_head (codes "server_up") (codes "gauge")
+    (codes "Whether the last connect to the server succeeded. No sample before the first.")
+    ++ server_up_sample server.state
+    ++ run_metric (codes "server_state_seconds") (codes "gauge")
+    (codes "Seconds since the first connect with this result; before any connect, since the run began.") server.seconds
+
+-- the metrics of the run, but for its counters over all sessions
+abbrev pub metrics_head : RunStatus → List ℕ
+metrics_head run = presence_metrics run ++ admission_metrics run ++ waiting_metrics run ++ server_metrics run.server
 
 -- a sample of a session up to its labels after the session's own
 unfoldable pub sample_front : List ℕ → SessionRow → List ℕ

@@ -8,6 +8,8 @@ use Rattle.daide_protocol.specs.declared.phase.Phase.{Phase}
 use Rattle.daide_protocol.specs.declared.phase.Phase.TheVariants.{WaitIm, WaitRm, Open, Over}
 use Rattle.daide_protocol.specs.declared.bot_name.BotName.{BotName}
 use Rattle.daide_protocol.specs.BotName.{name_text}
+use Rattle.daide_status.specs.declared.snapshot.ServerState.{ServerState}
+use Rattle.daide_status.specs.declared.snapshot.ServerState.TheVariants.{Untried, Up, Away}
 
 -- a call appended a text; or it returned an error, and then an allocation was refused
 abbrev pub AppendsOrRefused : {A E : Type 0} → (ℕ → Type 0) → Vec ℕ A → Vec ℕ A → Result (Unit {0}) E → List ℕ → Type 0
@@ -24,6 +26,12 @@ phase_name WaitIm = codes "wait IM"
 phase_name WaitRm = codes "wait RM"
 phase_name Open = codes "open"
 phase_name Over = codes "over"
+
+-- the name of the server's state
+abbrev pub server_state_name : ServerState → List ℕ
+server_state_name Untried = codes "untried"
+server_state_name Up = codes "up"
+server_state_name Away = codes "away"
 
 -- a text in a column: a space, however long the text is, and the text to the right of this width
 abbrev pub cell : ℕ → List ℕ → List ℕ

@@ -1,6 +1,5 @@
 -- The lines by which an operator requests something of a run. (own)
 use Rattle.std.specs.Prelude.{ℕ, if◌then◌else◌, List, Option, Some, None, bytes_eq, codes}
-use Rattle.daide_status.specs.declared.request.Format.{Format}
 use Rattle.daide_status.specs.declared.request.Format.TheVariants.{Table, Json, Prometheus}
 use Rattle.daide_status.specs.declared.request.ControlRequest.{ControlRequest}
 use Rattle.daide_status.specs.declared.request.ControlRequest.TheVariants.{Status, Stop, StopNow}

@@ -1,21 +1,25 @@
--- The text of a status: a function of the status of the run and of the rows of its sessions. (own)
+-- The text of a status: a function of the status of the run and of the rows of its sessions. What the run counted is that of
+-- the sessions that ended and of those that have a row. (own)
 use Rattle.std.specs.Prelude.{ℕ, ◌++◌, Bool, true, false, if◌then◌else◌, List, [], ◌∷◌, codes}
 use Rattle.std.specs.List.{flat_map}
 use Rattle.daide_status.specs.declared.request.Format.{Format}
 use Rattle.daide_status.specs.declared.request.Format.TheVariants.{Table, Json, Prometheus}
+use Rattle.daide_status.specs.declared.counts.RunCounts.{RunCounts}
 use Rattle.daide_status.specs.declared.snapshot.RunStatus.{RunStatus}
 use Rattle.daide_status.specs.declared.snapshot.SessionRow.{SessionRow}
 use Rattle.daide_status.specs.declared.text.StatusText.{StatusText}
 use Rattle.daide_status.specs.Columns.{table_head, table_row}
+use Rattle.daide_status.specs.Counts.{row_counted, totals_of}
 use Rattle.daide_status.specs.Json.{json_head, json_row, json_rows, json_end}
 use Rattle.daide_status.specs.Metrics.{metrics_head, session_metrics, frame_samples, byte_samples, waiting_samples, idle_samples, level_sample}
+use Rattle.daide_status.specs.Totals.{total_metrics}
 
 -- the text of a status
 abbrev pub status_text : Format → RunStatus → List SessionRow → List ℕ
 status_text Table run rows = table_head run ++ flat_map table_row rows
-status_text Json run rows = json_head run ++ json_rows rows ++ json_end
+status_text Json run rows = json_head run ++ json_rows rows ++ json_end (totals_of rows run.counts)
 status_text Prometheus run rows =
-    metrics_head run
+    metrics_head run ++ total_metrics (totals_of rows run.counts)
     ++ session_metrics (flat_map frame_samples rows) (flat_map byte_samples rows) (flat_map waiting_samples rows)
     (flat_map idle_samples rows) (flat_map level_sample rows)
 
@@ -23,6 +27,7 @@ status_text Prometheus run rows =
 pub record StatusView : Type 0 where
   pub format : Format
   pub has_rows : Bool
+  pub counts : RunCounts
   pub text : List ℕ
   pub frames : List ℕ
   pub bytes : List ℕ
@@ -34,6 +39,7 @@ abbrev pub status_view : {A : Type 0} → StatusText A → StatusView
 status_view t = record {
   format = t.format;
   has_rows = t.has_rows;
+  counts = t.counts;
   text = t.text.items;
   frames = t.samples.frames.items;
   bytes = t.samples.bytes.items;
@@ -53,6 +59,7 @@ abbrev pub begun : Format → RunStatus → StatusView
 begun format run = record {
   format = format;
   has_rows = false;
+  counts = run.counts;
   text = status_head format run;
   frames = [];
   bytes = [];
@@ -88,22 +95,27 @@ with_row_as Table row view = with_line row view
 with_row_as Json row view = with_object row view
 with_row_as Prometheus row view = with_samples row view
 
+-- with the counts of one more session
+abbrev pub with_counts : SessionRow → StatusView → StatusView
+with_counts row view = record view { counts = row_counted row view.counts }
+
 abbrev pub with_row : SessionRow → StatusView → StatusView
-with_row row view = with_row_as view.format row view
+with_row row view = with_row_as view.format row (with_counts row view)
 
 -- with the sessions of some rows, in their order
 abbrev pub with_rows : List SessionRow → StatusView → StatusView
 with_rows [] view = view
 with_rows (row ∷ rows) view = with_rows rows (with_row row view)
 
--- the metrics of the sessions of a text
+-- the counters of the run, and the metrics of the sessions of a text
 abbrev pub all_samples : StatusView → List ℕ
-all_samples view = session_metrics view.frames view.bytes view.waiting view.idle view.levels
+all_samples view =
+    total_metrics view.counts ++ session_metrics view.frames view.bytes view.waiting view.idle view.levels
 
 -- what a text ends with, by the format
 abbrev pub status_end : Format → StatusView → List ℕ
 status_end Table view = []
-status_end Json view = json_end
+status_end Json view = json_end view.counts
 status_end Prometheus view = all_samples view
 
 -- the finished text

@@ -1,16 +1,37 @@
 //! The status as one JSON document: the members of the run, and an array with an object for each session.
 
 ghost use Rattle.daide_status.specs.Pieces.{AppendsOrRefused};
+ghost use Rattle.daide_status.specs.Json.{json_counters, json_end, json_ended, json_ends, json_further, json_lost, json_server, json_traffic};
 ghost use Rattle.daide_status.specs.Json.{json_counts, json_faults, json_head, json_identity, json_bytes, json_idle, json_waiting, json_name, json_port, json_row, json_run_counts, json_run_state, json_sides, json_session, name_or_null};
 
+use crate::counts::{EndCause, EndCounts, RunCounts, Traffic};
 use crate::pieces::{phase_name, port_number, put_or_null, put_quoted_name};
-use crate::snapshot::{RunStatus, SessionRow};
+use crate::snapshot::{RunStatus, ServerStatus, SessionRow};
 use daide_causes::Growth;
-use daide_protocol::{Account, BotName, Counter};
+use daide_frame::Side;
+use daide_protocol::{Account, BotName, Counter, SideCounts};
 use std::alloc::AllocError;
 
-/// What comes after the last session.
-pub(crate) const END: &str = "\n]}\n";
+/// All causes but the first, in their order.
+const OTHER_CAUSES: [EndCause; 17] = [
+    EndCause::Ended(Side::Server),
+    EndCause::Lost(Side::Bot),
+    EndCause::Lost(Side::Server),
+    EndCause::Final(Side::Bot),
+    EndCause::Final(Side::Server),
+    EndCause::Error(Side::Bot),
+    EndCause::Error(Side::Server),
+    EndCause::Fault(Side::Bot),
+    EndCause::Fault(Side::Server),
+    EndCause::NoIm,
+    EndCause::Stopped,
+    EndCause::Silent(Side::Bot),
+    EndCause::Silent(Side::Server),
+    EndCause::Stalled(Side::Bot),
+    EndCause::Stalled(Side::Server),
+    EndCause::TurnsSpent,
+    EndCause::NoServer,
+];
 
 /// Appends the numbers of the run.
 fn put_run_counts<A: Growth>(run: &RunStatus, out: &mut Vec<u8, A>) -> Result<(), AllocError>
@@ -31,7 +52,7 @@ fn put_run_counts<A: Growth>(run: &RunStatus, out: &mut Vec<u8, A>) -> Result<()
     )
 }
 
-/// Appends the flags of the run and its seconds, and the beginning of the array.
+/// Appends the flags of the run and its seconds.
 fn put_run_state<A: Growth>(run: &RunStatus, out: &mut Vec<u8, A>) -> Result<(), AllocError>
     ensures { AppendsOrRefused A.Refuses out.old out.new result (json_run_state run.now) }
 {
@@ -44,7 +65,25 @@ fn put_run_state<A: Growth>(run: &RunStatus, out: &mut Vec<u8, A>) -> Result<(),
     A::append_text(
         out,
         format_args!(
-            ",\"bots_may_wait\":{has_waiting},\"stopping\":{is_stopping},\"seconds\":{seconds},\"sessions\":["
+            ",\"bots_may_wait\":{has_waiting},\"stopping\":{is_stopping},\"seconds\":{seconds}"
+        ),
+    )
+}
+
+/// Appends the state of the server, and the beginning of the array.
+fn put_server_member<A: Growth>(
+    server: &ServerStatus,
+    out: &mut Vec<u8, A>,
+) -> Result<(), AllocError>
+    ensures { AppendsOrRefused A.Refuses out.old out.new result (json_server server.now) }
+{
+    let state = server.state.name();
+    let seconds = server.seconds;
+    let unreached = server.unreached;
+    A::append_text(
+        out,
+        format_args!(
+            ",\"server\":{{\"state\":\"{state}\",\"seconds\":{seconds},\"unreached\":{unreached}}},\"sessions\":["
         ),
     )
 }
@@ -57,7 +96,8 @@ pub(crate) fn put_json_head<A: Growth>(
     ensures { AppendsOrRefused A.Refuses out.old out.new result (json_head run.now) }
 {
     put_run_counts(run, out)?;
-    put_run_state(run, out)
+    put_run_state(run, out)?;
+    put_server_member(&run.server, out)
 }
 
 /// Appends the number of a session, its bot's address, its phase and its level.
@@ -135,14 +175,26 @@ fn put_faults<A: Growth>(faults: u64, out: &mut Vec<u8, A>) -> Result<(), AllocE
     A::append_text(out, format_args!(",\"faults\":{faults}"))
 }
 
+/// Appends what is counted for each side.
+fn put_counters<A: Growth>(
+    bot: &SideCounts,
+    server: &SideCounts,
+    out: &mut Vec<u8, A>,
+) -> Result<(), AllocError>
+    ensures { AppendsOrRefused A.Refuses out.old out.new result (json_counters bot.now server.now) }
+{
+    for counter in Counter::ALL {
+        let (of_bot, of_server) = (bot.of(counter), server.of(counter));
+        put_sides(counter.name(), of_bot as u128, of_server as u128, out)?;
+    }
+    Ok(())
+}
+
 /// Appends the counts of a session, by side.
 fn put_counts<A: Growth>(account: &Account, out: &mut Vec<u8, A>) -> Result<(), AllocError>
     ensures { AppendsOrRefused A.Refuses out.old out.new result (json_counts account.now) }
 {
-    for counter in Counter::ALL {
-        let (bot, server) = (account.bot.of(counter), account.server.of(counter));
-        put_sides(counter.name(), bot as u128, server as u128, out)?;
-    }
+    put_counters(&account.bot, &account.server, out)?;
     put_faults(account.faults, out)
 }
 
@@ -205,4 +257,85 @@ pub(crate) fn put_json_row<A: Growth>(
     put_waiting_sides(row, out)?;
     put_byte_sides(row, out)?;
     put_idle_sides(row, out)
+}
+
+/// Appends the end of the array, the connections that got no session, and the faults of all sessions.
+fn put_lost_members<A: Growth>(counts: &RunCounts, out: &mut Vec<u8, A>) -> Result<(), AllocError>
+    ensures { AppendsOrRefused A.Refuses out.old out.new result (json_lost counts.now) }
+{
+    let RunCounts {
+        declined,
+        dropped,
+        faults,
+        ..
+    } = *counts;
+    A::append_text(
+        out,
+        format_args!(
+            "\n],\"counts\":{{\"declined\":{declined},\"dropped\":{dropped},\"frames\":{{\"faults\":{faults}"
+        ),
+    )
+}
+
+/// Appends the bytes of all sessions.
+fn put_traffic<A: Growth>(traffic: Traffic, out: &mut Vec<u8, A>) -> Result<(), AllocError>
+    ensures { AppendsOrRefused A.Refuses out.old out.new result (json_traffic traffic) }
+{
+    let Traffic {
+        received_from_bot,
+        received_from_server,
+        sent_to_bot,
+        sent_to_server,
+    } = traffic;
+    A::append_text(
+        out,
+        format_args!(
+            "}},\"bytes\":{{\"received\":{{\"bot\":{received_from_bot},\"server\":{received_from_server}}},\"sent\":{{\"bot\":{sent_to_bot},\"server\":{sent_to_server}}}}},\"ends\":{{"
+        ),
+    )
+}
+
+/// Appends the number of sessions that ended by a cause.
+fn put_ended<A: Growth>(cause: EndCause, count: u64, out: &mut Vec<u8, A>) -> Result<(), AllocError>
+    ensures { AppendsOrRefused A.Refuses out.old out.new result (json_ended cause count) }
+{
+    let name = cause.name();
+    A::append_text(out, format_args!("\"{name}\":{count}"))
+}
+
+/// Appends the number of sessions that ended by a further cause.
+fn put_further<A: Growth>(
+    cause: EndCause,
+    count: u64,
+    out: &mut Vec<u8, A>,
+) -> Result<(), AllocError>
+    ensures { AppendsOrRefused A.Refuses out.old out.new result (json_further cause count) }
+{
+    A::append(out, b",")?;
+    put_ended(cause, count, out)
+}
+
+/// Appends the numbers of sessions that ended, by cause.
+fn put_ends<A: Growth>(ends: &EndCounts, out: &mut Vec<u8, A>) -> Result<(), AllocError>
+    ensures { AppendsOrRefused A.Refuses out.old out.new result (json_ends ends.now) }
+{
+    put_ended(EndCause::Ended(Side::Bot), ends.bot_ended, out)?;
+    for cause in OTHER_CAUSES {
+        put_further(cause, ends.of(cause), out)?;
+    }
+    Ok(())
+}
+
+/// Appends what comes after the last session: what the run counted.
+pub(crate) fn put_json_end<A: Growth>(
+    counts: &RunCounts,
+    out: &mut Vec<u8, A>,
+) -> Result<(), AllocError>
+    ensures { AppendsOrRefused A.Refuses out.old out.new result (json_end counts.now) }
+{
+    put_lost_members(counts, out)?;
+    put_counters(&counts.bot, &counts.server, out)?;
+    put_traffic(counts.traffic, out)?;
+    put_ends(&counts.ends, out)?;
+    A::append(out, b"}}}\n")
 }

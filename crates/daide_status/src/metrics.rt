@@ -2,12 +2,13 @@
 
 ghost use Rattle.std.specs.Prelude.{◌≡◌, ◌+◌, ◌++◌, [], codes};
 ghost use Rattle.daide_status.specs.Metrics.{count_labels, count_sample, side_samples, flag_number, frame_samples, idle_samples, idle_sample, level_sample};
+ghost use Rattle.daide_status.specs.Metrics.{accepted_bots, admission_metrics, presence_metrics, server_metrics, server_up_sample};
 ghost use Rattle.daide_status.specs.Metrics.{metric_head, metrics_head, phase_label, run_metric, session_sample, waiting_samples};
 ghost use Rattle.daide_status.specs.Pieces.{AppendsOrRefused, quoted_name};
 ghost use Rattle.daide_status.specs.Metrics.{byte_samples, session_counters, sample_front, name_label, run_sample, sample_end, session_metric, session_metrics, waiting_metrics};
 
 use crate::pieces::{put_quoted_name, sum};
-use crate::snapshot::{RunStatus, SessionRow};
+use crate::snapshot::{RunStatus, ServerState, ServerStatus, SessionRow};
 use daide_causes::Growth;
 use daide_protocol::{BotName, Counter, Phase, SideCounts};
 use std::alloc::{AllocError, Allocator};
@@ -47,7 +48,7 @@ impl<A: Allocator + Copy> Samples<A> {
 }
 
 /// Appends the help and the type of a metric.
-fn put_metric<A: Growth>(
+pub(crate) fn put_metric<A: Growth>(
     name: &str,
     kind: &str,
     help: &str,
@@ -69,7 +70,7 @@ fn put_value<A: Growth>(name: &str, value: u64, out: &mut Vec<u8, A>) -> Result<
 }
 
 /// Appends a metric of the run, with its one sample.
-fn put_run_metric<A: Growth>(
+pub(crate) fn put_run_metric<A: Growth>(
     name: &str,
     kind: &str,
     help: &str,
@@ -109,13 +110,11 @@ fn put_state<A: Growth>(run: &RunStatus, out: &mut Vec<u8, A>) -> Result<(), All
     )
 }
 
-/// Appends the metrics of the run.
-pub(crate) fn put_metrics_head<A: Growth>(
-    run: &RunStatus,
-    out: &mut Vec<u8, A>,
-) -> Result<(), AllocError>
-    ensures { AppendsOrRefused A.Refuses out.old out.new result (metrics_head run.now) }
+/// Appends that the run answers, and which sessions it has.
+fn put_presence<A: Growth>(run: &RunStatus, out: &mut Vec<u8, A>) -> Result<(), AllocError>
+    ensures { AppendsOrRefused A.Refuses out.old out.new result (presence_metrics run.now) }
 {
+    put_run_metric("up", "gauge", "Whether the run answers.", 1, out)?;
     put_run_metric(
         "sessions",
         "gauge",
@@ -128,6 +127,26 @@ pub(crate) fn put_metrics_head<A: Growth>(
         "gauge",
         "Bots that wait for a connection to the server.",
         run.connecting as u64,
+        out,
+    )
+}
+
+/// Returns the number of bots that were accepted.
+fn accepted_bots(run: &RunStatus) -> u64
+    ensures { result ≡ accepted_bots run.now }
+{
+    run.open as u64 + run.connecting as u64 + run.served as u64 + run.unreached as u64
+}
+
+/// Appends the numbers of bots that were accepted, served, and not served since the server could not be reached.
+fn put_admissions<A: Growth>(run: &RunStatus, out: &mut Vec<u8, A>) -> Result<(), AllocError>
+    ensures { AppendsOrRefused A.Refuses out.old out.new result (admission_metrics run.now) }
+{
+    put_run_metric(
+        "accepted_total",
+        "counter",
+        "Bots that were accepted.",
+        accepted_bots(run),
         out,
     )?;
     put_run_metric(
@@ -143,8 +162,43 @@ pub(crate) fn put_metrics_head<A: Growth>(
         "Bots for which the server could not be reached.",
         run.unreached as u64,
         out,
-    )?;
-    put_state(run, out)
+    )
+}
+
+/// Appends whether the last connect reached the server; nothing before the first.
+fn put_server_up<A: Growth>(state: ServerState, out: &mut Vec<u8, A>) -> Result<(), AllocError>
+    ensures { AppendsOrRefused A.Refuses out.old out.new result (server_up_sample state) }
+{
+    match state {
+        ServerState::Untried => Ok(()),
+        ServerState::Up => put_value("server_up", 1, out),
+        ServerState::Away => put_value("server_up", 0, out),
+    }
+}
+
+/// Appends the state of the server, and the seconds since it began.
+fn put_server<A: Growth>(server: &ServerStatus, out: &mut Vec<u8, A>) -> Result<(), AllocError>
+    ensures { AppendsOrRefused A.Refuses out.old out.new result (server_metrics server.now) }
+{
+    let up = "Whether the last connect to the server succeeded. No sample before the first.";
+    put_metric("server_up", "gauge", up, out)?;
+    put_server_up(server.state, out)?;
+    let since =
+        "Seconds since the first connect with this result; before any connect, since the run began.";
+    put_run_metric("server_state_seconds", "gauge", since, server.seconds, out)
+}
+
+/// Appends the metrics of the run, but for its counters over all sessions.
+pub(crate) fn put_metrics_head<A: Growth>(
+    run: &RunStatus,
+    out: &mut Vec<u8, A>,
+) -> Result<(), AllocError>
+    ensures { AppendsOrRefused A.Refuses out.old out.new result (metrics_head run.now) }
+{
+    put_presence(run, out)?;
+    put_admissions(run, out)?;
+    put_state(run, out)?;
+    put_server(&run.server, out)
 }
 
 /// Appends a sample of a session up to its labels after the session's own.

@@ -1,8 +1,48 @@
 //! The status of a run and of a session, as values.
 
+ghost use Rattle.std.specs.Prelude.{◌≡◌};
+ghost use Rattle.daide_status.specs.Counts.{row_traffic};
+ghost use Rattle.daide_status.specs.Pieces.{server_state_name};
+
+use crate::counts::{RunCounts, Traffic};
 use daide_grammar::Level;
 use daide_protocol::{Account, Phase};
 use std::net::SocketAddr;
+
+/// What the last connect to the server that came to an end showed.
+#[derive(Clone, Copy)]
+pub enum ServerState {
+    /// No connect came to an end yet.
+    Untried,
+    /// The server was reached.
+    Up,
+    /// The server could not be reached.
+    Away,
+}
+
+impl ServerState {
+    /// Returns the name of the state in texts.
+    pub fn name(self) -> &'static str
+        ensures { result.now ≡ server_state_name self }
+    {
+        match self {
+            ServerState::Untried => "untried",
+            ServerState::Up => "up",
+            ServerState::Away => "away",
+        }
+    }
+}
+
+/// The state of the server.
+#[derive(Clone, Copy)]
+pub struct ServerStatus {
+    /// What the last connect showed.
+    pub state: ServerState,
+    /// The seconds since the first connect that showed this state; before any connect, since the run began.
+    pub seconds: u64,
+    /// The number of bots for which the server could not be reached since then, with the one that showed it first.
+    pub unreached: u64,
+}
 
 /// The status of a run.
 #[derive(Clone, Copy)]
@@ -21,6 +61,10 @@ pub struct RunStatus {
     pub is_stopping: bool,
     /// The seconds since the run began.
     pub seconds: u64,
+    /// The state of the server.
+    pub server: ServerStatus,
+    /// What the run counted. The frames, faults and bytes are those of the sessions that ended.
+    pub counts: RunCounts,
 }
 
 /// The status of a session, with what its sockets know of it.
@@ -56,4 +100,18 @@ pub struct SessionRow {
     pub bot_idle: Option<u64>,
     /// The seconds since the server's last byte; `None` if it has sent none.
     pub server_idle: Option<u64>,
+}
+
+impl SessionRow {
+    /// Returns the bytes of the session.
+    pub(crate) fn traffic(&self) -> Traffic
+        ensures { result ≡ row_traffic self.now }
+    {
+        Traffic {
+            received_from_bot: self.received_from_bot,
+            received_from_server: self.received_from_server,
+            sent_to_bot: self.sent_to_bot,
+            sent_to_server: self.sent_to_server,
+        }
+    }
 }

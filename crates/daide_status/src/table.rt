@@ -1,13 +1,15 @@
-//! The status in aligned columns. Its lines have at most 169 bytes before a bot's name, except those with an address of
-//! IPv6 or with a number that is longer than its column.
+//! The status in aligned columns. The line of a session has 60 bytes before its bot, if no number is longer than its
+//! column.
 
 ghost use Rattle.std.specs.Prelude.{◌≡◌, ◌++◌, codes};
 ghost use Rattle.daide_protocol.specs.BotName.{name_text};
 ghost use Rattle.daide_status.specs.Pieces.{AppendsOrRefused};
-ghost use Rattle.daide_status.specs.Columns.{bot_cells, byte_cells, name_cell, number_cells, open_cell, phase_cell, run_line, side_cells, table_head, table_row, totals};
+ghost use Rattle.daide_status.specs.Columns.{bot_cells, counter_width, ended_item, ended_items, ended_line, name_cell, no_sessions, open_cell, phase_cell};
+ghost use Rattle.daide_status.specs.Columns.{run_line, server_line, session_cells, side_cells, table_head, table_row, totals, waiting_cells};
 
-use crate::pieces::{port_number, put_cell, put_if, put_name, put_or_dash, sum};
-use crate::snapshot::{RunStatus, SessionRow};
+use crate::counts::{EndCause, EndCounts, RunCounts};
+use crate::pieces::{put_cell, put_if, put_name, put_or_dash, sum};
+use crate::snapshot::{RunStatus, ServerStatus, SessionRow};
 use daide_causes::Growth;
 use daide_grammar::Level;
 use daide_protocol::{BotName, Counter, Phase, SideCounts};
@@ -70,7 +72,69 @@ fn put_run_line<A: Growth>(run: &RunStatus, out: &mut Vec<u8, A>) -> Result<(), 
     A::append(out, b"\n")
 }
 
-/// Appends the line of the run, and the names of the columns.
+/// Appends the line of the server.
+fn put_server_line<A: Growth>(server: &ServerStatus, out: &mut Vec<u8, A>) -> Result<(), AllocError>
+    ensures { AppendsOrRefused A.Refuses out.old out.new result (server_line server.now) }
+{
+    let state = server.state.name();
+    let seconds = server.seconds;
+    let unreached = server.unreached;
+    A::append_text(
+        out,
+        format_args_nl!("server {state} for {seconds} s, {unreached} unreached since"),
+    )
+}
+
+/// Appends a number of sessions that ended, if it is not 0, and their cause.
+fn put_ended_item<A: Growth>(
+    cause: EndCause,
+    count: u64,
+    out: &mut Vec<u8, A>,
+) -> Result<(), AllocError>
+    ensures { AppendsOrRefused A.Refuses out.old out.new result (ended_item cause count) }
+{
+    if count == 0 {
+        return Ok(());
+    }
+    let name = cause.name();
+    A::append_text(out, format_args!(", {count} {name}"))
+}
+
+/// Appends the numbers of sessions that ended, by cause.
+fn put_ended_items<A: Growth>(ends: &EndCounts, out: &mut Vec<u8, A>) -> Result<(), AllocError>
+    ensures { AppendsOrRefused A.Refuses out.old out.new result (ended_items ends.now) }
+{
+    for cause in EndCause::ALL {
+        put_ended_item(cause, ends.of(cause), out)?;
+    }
+    Ok(())
+}
+
+/// Appends the numbers of connections that got no session.
+fn put_no_sessions<A: Growth>(counts: &RunCounts, out: &mut Vec<u8, A>) -> Result<(), AllocError>
+    ensures { AppendsOrRefused A.Refuses out.old out.new result (no_sessions counts.now) }
+{
+    let RunCounts {
+        declined,
+        dropped,
+        ..
+    } = *counts;
+    A::append_text(
+        out,
+        format_args!("ended: {declined} declined, {dropped} dropped"),
+    )
+}
+
+/// Appends the line of what ended.
+fn put_ended_line<A: Growth>(counts: &RunCounts, out: &mut Vec<u8, A>) -> Result<(), AllocError>
+    ensures { AppendsOrRefused A.Refuses out.old out.new result (ended_line counts.now) }
+{
+    put_no_sessions(counts, out)?;
+    put_ended_items(&counts.ends, out)?;
+    A::append(out, b"\n")
+}
+
+/// Appends the lines before the first session.
 pub(crate) fn put_table_head<A: Growth>(
     run: &RunStatus,
     out: &mut Vec<u8, A>,
@@ -78,19 +142,31 @@ pub(crate) fn put_table_head<A: Growth>(
     ensures { AppendsOrRefused A.Refuses out.old out.new result (table_head run.now) }
 {
     put_run_line(run, out)?;
+    put_server_line(&run.server, out)?;
+    put_ended_line(&run.counts, out)?;
     A::append(
         out,
-        b"                      from the bot   from the server\nsession  phase   relayed  PRN  HUH relayed  PRN  HUH  to bot to server    bot sent server sent    bot took server took  bot idle server idle   port bot and its name\n",
+        b"                   from bot   from server     bytes for  bot\n   no phase   relay PRN HUH relay PRN HUH    bot server idle bot and its name\n",
     )
 }
 
-/// Appends the counts of a side, each in a column as wide as its name, of four bytes at least.
+/// Returns the width of the column of a counter.
+fn counter_width(counter: Counter) -> usize
+    ensures { result ≡ counter_width counter }
+{
+    match counter {
+        Counter::Relayed => 5,
+        Counter::Prn => 3,
+        Counter::Huh => 3,
+    }
+}
+
+/// Appends the counts of a side, each in its column.
 fn put_side<A: Growth>(counts: &SideCounts, out: &mut Vec<u8, A>) -> Result<(), AllocError>
     ensures { AppendsOrRefused A.Refuses out.old out.new result (side_cells counts.now) }
 {
     for counter in Counter::ALL {
-        let width = counter.name().len().max(4);
-        put_cell(width, counts.of(counter) as u128, out)?;
+        put_cell(counter_width(counter), counts.of(counter) as u128, out)?;
     }
     Ok(())
 }
@@ -124,31 +200,22 @@ fn put_bot<A: Growth>(row: &SessionRow, out: &mut Vec<u8, A>) -> Result<(), Allo
     A::append(out, b"\n")
 }
 
-/// Appends the bytes received from each side, and those sent to each.
-fn put_byte_cells<A: Growth>(row: &SessionRow, out: &mut Vec<u8, A>) -> Result<(), AllocError>
-    ensures { AppendsOrRefused A.Refuses out.old out.new result (byte_cells row.now) }
+/// Appends the number of a session and its phase.
+fn put_session_cells<A: Growth>(row: &SessionRow, out: &mut Vec<u8, A>) -> Result<(), AllocError>
+    ensures { AppendsOrRefused A.Refuses out.old out.new result (session_cells row.now) }
 {
-    put_cell(11, row.received_from_bot as u128, out)?;
-    put_cell(11, row.received_from_server as u128, out)?;
-    put_cell(11, row.sent_to_bot as u128, out)?;
-    put_cell(11, row.sent_to_server as u128, out)
+    put_cell(4, row.number as u128, out)?;
+    A::append(out, b" ")?;
+    A::append(out, phase_cell(row.phase, row.level).as_bytes())
 }
 
-/// Appends the columns of a session before its bot.
-fn put_number_cells<A: Growth>(row: &SessionRow, out: &mut Vec<u8, A>) -> Result<(), AllocError>
-    ensures { AppendsOrRefused A.Refuses out.old out.new result (number_cells row.now) }
+/// Appends the bytes that wait for each side, and the seconds since the bot's last byte.
+fn put_waiting_cells<A: Growth>(row: &SessionRow, out: &mut Vec<u8, A>) -> Result<(), AllocError>
+    ensures { AppendsOrRefused A.Refuses out.old out.new result (waiting_cells row.now) }
 {
-    put_cell(6, row.number as u128, out)?;
-    A::append(out, b"  ")?;
-    A::append(out, phase_cell(row.phase, row.level).as_bytes())?;
-    put_side(&row.account.bot, out)?;
-    put_side(&row.account.server, out)?;
-    put_cell(7, sum(row.queued_to_bot, row.buffered_to_bot), out)?;
-    put_cell(9, sum(row.queued_to_server, row.buffered_to_server), out)?;
-    put_byte_cells(row, out)?;
-    put_or_dash(9, row.bot_idle, out)?;
-    put_or_dash(11, row.server_idle, out)?;
-    put_or_dash(6, port_number(row.port_to_server), out)
+    put_cell(6, sum(row.queued_to_bot, row.buffered_to_bot), out)?;
+    put_cell(6, sum(row.queued_to_server, row.buffered_to_server), out)?;
+    put_or_dash(4, row.bot_idle, out)
 }
 
 /// Appends the line of a session.
@@ -158,6 +225,9 @@ pub(crate) fn put_table_row<A: Growth>(
 ) -> Result<(), AllocError>
     ensures { AppendsOrRefused A.Refuses out.old out.new result (table_row row.now) }
 {
-    put_number_cells(row, out)?;
+    put_session_cells(row, out)?;
+    put_side(&row.account.bot, out)?;
+    put_side(&row.account.server, out)?;
+    put_waiting_cells(row, out)?;
     put_bot(row, out)
 }

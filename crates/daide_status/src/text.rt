@@ -1,14 +1,17 @@
 //! The text of a status, made row by row.
 
-ghost use Rattle.std.specs.Prelude.{◌≡◌, IfOk, OnOk, OnErr};
+ghost use Rattle.std.specs.Prelude.{◌≡◌, ◌++◌, IfOk, OnOk, OnErr};
 ghost use Rattle.daide_causes.specs.Causes.{WasRefused};
 ghost use Rattle.daide_status.specs.Pieces.{AppendsOrRefused};
+ghost use Rattle.daide_status.specs.Metrics.{session_metrics};
 ghost use Rattle.daide_status.specs.StatusTexts.{begun, ended, status_head, status_view, with_object, with_row, with_samples};
+ghost use Rattle.daide_status.specs.Totals.{total_metrics};
 
+use crate::counts::RunCounts;
 use crate::metrics::Samples;
 use crate::request::Format;
 use crate::snapshot::{RunStatus, SessionRow};
-use crate::{json, metrics, table};
+use crate::{json, metrics, table, totals};
 use daide_causes::Growth;
 use std::alloc::{AllocError, Allocator, Global};
 
@@ -18,6 +21,8 @@ pub struct StatusText<A: Allocator = Global> {
     format: Format,
     /// Whether a row was added.
     has_rows: bool,
+    /// What the run counted, with the sessions that were added.
+    counts: RunCounts,
     text: Vec<u8, A>,
     /// For Prometheus, the samples of the sessions.
     samples: Samples<A>,
@@ -38,6 +43,20 @@ fn put_head<A: Growth>(
     }
 }
 
+/// Appends the counters of the run, and the metrics of the sessions.
+fn put_all_samples<A: Growth>(
+    counts: &RunCounts,
+    samples: &Samples<A>,
+    out: &mut Vec<u8, A>,
+) -> Result<(), AllocError>
+    ensures { AppendsOrRefused A.Refuses out.old out.new result (total_metrics counts.now
+        ++ session_metrics samples.now.frames.items samples.now.bytes.items samples.now.waiting.items
+        samples.now.idle.items samples.now.levels.items) }
+{
+    totals::put_total_metrics(counts, out)?;
+    metrics::put_session_metrics(samples, out)
+}
+
 impl<A: Growth + Copy> StatusText<A> {
     /// Begins a text in a format, with the status of the run. Its only error is that memory was refused.
     pub fn begin(alloc: A, format: Format, run: &RunStatus) -> Result<StatusText<A>, AllocError>
@@ -49,6 +68,7 @@ impl<A: Growth + Copy> StatusText<A> {
         Ok(StatusText {
             format,
             has_rows: false,
+            counts: run.counts,
             text,
             samples: Samples::new(alloc),
         })
@@ -84,6 +104,7 @@ impl<A: Growth + Copy> StatusText<A> {
         ensures added { OnOk result (status_view self.new ≡ with_row row.now (status_view self.old)) }
         ensures refused { OnErr result (WasRefused A.Refuses) }
     {
+        self.counts.add_session(&row.account, row.traffic());
         match self.format {
             Format::Table => table::put_table_row(row, &mut self.text),
             Format::Json => self.add_object(row),
@@ -98,8 +119,8 @@ impl<A: Growth + Copy> StatusText<A> {
     {
         match self.format {
             Format::Table => {}
-            Format::Json => A::append(&mut self.text, json::END.as_bytes())?,
-            Format::Prometheus => metrics::put_session_metrics(&self.samples, &mut self.text)?,
+            Format::Json => json::put_json_end(&self.counts, &mut self.text)?,
+            Format::Prometheus => put_all_samples(&self.counts, &self.samples, &mut self.text)?,
         }
         Ok(self.text)
     }

@@ -1,5 +1,5 @@
-use Rattle.std.proofs.Common.{ℕ, ◌++◌, List, codes}
-use Rattle.daide_status.specs.Metrics.{run_metric, waiting_metrics}
+use Rattle.std.proofs.Common.{ℕ, ◌++◌, List}
+use Rattle.daide_status.specs.Metrics.{admission_metrics, presence_metrics, server_metrics, waiting_metrics}
 use Rattle.daide_status.proofs.Chains.{chained, then_last}
 use Rattle.daide_status.proofs.metrics.put_metrics_head.Goals as goal
 
@@ -7,15 +7,11 @@ pub returns : goal.returns
 returns g c =
     let old : List ℕ = c.args.out.now.items in
     let run = c.args.run.now in
-    let sessions = run_metric (codes "sessions") (codes "gauge") (codes "Sessions that are open.") run.open in
-    let connecting = run_metric (codes "connecting") (codes "gauge")
-    (codes "Bots that wait for a connection to the server.") run.connecting in
-    let served = run_metric (codes "served_total") (codes "counter") (codes "Sessions that are over.") run.served in
-    let unreached = run_metric (codes "unreached_total") (codes "counter")
-    (codes "Bots for which the server could not be reached.") run.unreached in
-    then_last _ c.args.out.now c.put_run_metric-4.new.out c.put_state.new.out c.put_state.result
-    (sessions ++ connecting ++ served ++ unreached) (waiting_metrics run)
-    (chained old (sessions ++ connecting ++ served) unreached _ _
-    (chained old (sessions ++ connecting) served _ _
-    (chained old sessions connecting _ _ c.in_ok-put_run_metric.ensures c.in_ok-put_run_metric-2.ensures)
-    c.in_ok-put_run_metric-3.ensures) c.in_ok-put_run_metric-4.ensures) c.put_state.ensures
+    let presence = presence_metrics run in
+    let admissions = admission_metrics run in
+    let waiting = waiting_metrics run in
+    then_last _ c.args.out.now c.put_state.new.out c.put_server.new.out c.put_server.result
+    (presence ++ admissions ++ waiting) (server_metrics run.server)
+    (chained old (presence ++ admissions) waiting _ _
+    (chained old presence admissions _ _ c.in_ok-put_presence.ensures c.in_ok-put_admissions.ensures)
+    c.in_ok-put_state.ensures) c.put_server.ensures
