@@ -31,8 +31,8 @@ SESSIONS = 20
 HOSTILE = 300
 
 COLUMNS = """\
-                      from the bot   from the server
-session  phase   relayed  PRN  HUH relayed  PRN  HUH  to bot to server    bot sent server sent    bot took server took  bot idle server idle   port bot and its name"""
+                   from bot   from server     bytes for  bot
+   no phase   relay PRN HUH relay PRN HUH    bot server idle bot and its name"""
 
 
 class Match:
@@ -176,7 +176,9 @@ def status_is_a_table(program):
     """Without a session, with one that waits for its RM, and with one that is open and was answered."""
     with Match(program, "max_sessions = 2\nsessions = 5") as match:
         text = re.sub(r"up \d+ s", "up", match.status())
-        same(text, f"0 open, 0 connecting, 0 served, 0 unreached, up\n{COLUMNS}\n", "status without a session")
+        text = re.sub(r"for \d+ s", "for", text)
+        same(text, f"0 open, 0 connecting, 0 served, 0 unreached, up\nserver untried for, 0 unreached since\n"
+             f"ended: 0 declined, 0 dropped\n{COLUMNS}\n", "status without a session")
         bot, server = match.opens()
         speaks(bot, server)
         waiting, other = match.comes()
@@ -187,21 +189,23 @@ def status_is_a_table(program):
         first = re.sub(r"up \d+ s", "up", lines[0]).removesuffix("; bots may wait for a place")
         same(first, "2 open, 0 connecting, 0 served, 0 unreached, up", "the first line")
         wanted = [
-            f"      1  open 0        2    1    0       2    0    0       0         0          22          16          30          14         *           * {port(server):>6} {address(bot)}",
-            f"      2  wait RM       1    0    0       0    0    0       0         0           8           0           0           8         *           - {port(other):>6} {address(waiting)}",
+            f"    1 open 0      2   1   0     2   0   0      0      0    * {address(bot)}",
+            f"    2 wait RM     1   0   0     0   0   0      0      0    * {address(waiting)}",
         ]
-        for line, text in zip(lines[3:], wanted, strict=True):
+        same(re.sub(r"for \d+ s", "for", lines[1]), "server up for, 0 unreached since", "the line of the server")
+        for line, text in zip(lines[5:], wanted, strict=True):
             pattern = re.escape(text).replace(r"\*", r"\d")
             if not re.fullmatch(pattern, line):
                 same(line, text, "the line of a session")
-            if len(line) > 169:
+            if len(line) > 100:
                 raise Wrong(f"a line has {len(line)} bytes")
         match.connects()
         settled(match, "table", lambda text: "; bots may wait for a place\n" in text)
 
 
 def status_counts_what_is_over(program):
-    """A session that is over counts as served, and a bot for which nobody listens as unreached alone."""
+    """A session that is over counts as served, with its frames and its bytes, and a bot for which nobody listens as
+    unreached alone. Each has the cause of its end."""
     with Match(program, "sessions = 5") as match:
         bot, server = match.opens()
         bot.sendall(FM)
@@ -210,7 +214,14 @@ def status_counts_what_is_over(program):
             stream.close()
         match.connects()
         text = settled(match, "table", lambda text: text.startswith("0 open, 0 connecting") and " 1 unreached, " in text)
-        same(re.sub(r"up \d+ s", "up", text.splitlines()[0]), "0 open, 0 connecting, 1 served, 1 unreached, up", "the first line")
+        head = [re.sub(r"(up|for) \d+ s", r"\1", line) for line in text.splitlines()[:3]]
+        same(head, ["0 open, 0 connecting, 1 served, 1 unreached, up", "server away for, 1 unreached since",
+                    "ended: 0 declined, 0 dropped, 1 FM of bot, 1 no server"], "the first lines")
+        counts = json.loads(match.status("json"))["counts"]
+        same(counts["frames"]["relayed"], {"bot": 2, "server": 1}, "the frames of the session that is over")
+        same(counts["bytes"], {"received": {"bot": len(IM + FM), "server": len(RM)},
+                               "sent": {"bot": len(RM), "server": len(IM + FM)}}, "its bytes")
+        same({cause: count for cause, count in counts["ends"].items() if count}, {"FM of bot": 1, "no server": 1}, "the causes")
 
 
 def status_is_a_document(program):
@@ -224,6 +235,13 @@ def status_is_a_document(program):
         found = json.loads(match.status("json"))
         same({name: found[name] for name in ("open", "connecting", "served", "unreached", "bots_may_wait", "stopping")},
              {"open": 2, "connecting": 0, "served": 0, "unreached": 0, "bots_may_wait": False, "stopping": False}, "the run")
+        same((found["server"]["state"], found["server"]["unreached"]), ("up", 0), "the server")
+        nothing = {"bot": 0, "server": 0}
+        same(found["counts"]["frames"], {"faults": 0, "relayed": {"bot": 2, "server": 2}, "prn": {"bot": 1, "server": 0},
+                                         "huh": nothing}, "the frames of all sessions")
+        same(found["counts"]["bytes"], {"received": {"bot": 22, "server": 16}, "sent": {"bot": 30, "server": 14}},
+             "the bytes of all sessions")
+        same((len(found["counts"]["ends"]), sum(found["counts"]["ends"].values())), (18, 0), "the ends of all sessions")
         first, second = found["sessions"]
         same((first["session"], first["bot"], first["phase"], first["level"]), (1, address(bot), "open", 0), "session 1")
         same([first[name] for name in ("relayed", "prn", "huh", "faults")],
@@ -259,12 +277,18 @@ def status_has_metrics(program):
         same(helped, set(typed), "metrics with a help")
         labels = f'session="1",bot="{address(bot)}"'
         same(values["daide_gate_sessions"], 2, "sessions")
+        same([values[f"daide_gate_{name}"] for name in ("up", "accepted_total", "server_up", "declined_total", "dropped_total")],
+             [1, 2, 1, 0, 0], "the run")
+        same([values[f'daide_gate_ended_total{{cause="{cause}"}}'] for cause in ("bot ended", "no server")], [0, 0], "ends")
         for side, result, count in (("bot", "relayed", 2), ("server", "relayed", 2), ("bot", "prn", 1), ("server", "prn", 0)):
             name = f'daide_gate_session_frames_total{{{labels},side="{side}",result="{result}"}}'
             same(values[name], count, f"{result} of the {side}")
+            same(values[f'daide_gate_frames_total{{side="{side}",result="{result}"}}'], count, f"all {result} of the {side}")
         for side, direction, count in (("bot", "received", 22), ("server", "received", 16), ("bot", "sent", 30), ("server", "sent", 14)):
             name = f'daide_gate_session_bytes_total{{{labels},side="{side}",direction="{direction}"}}'
             same(values[name], count, f"bytes {direction}, {side}")
+            name = f'daide_gate_bytes_total{{side="{side}",direction="{direction}"}}'
+            same(values[name], count, f"all bytes {direction}, {side}")
         same(values[f'daide_gate_session_level{{{labels},phase="open"}}'], 0, "level")
 
 
@@ -285,7 +309,7 @@ def status_has_names(program):
                 same(received(server, len(frame)), frame, "received by the server")
         names = [name for _, name in named]
         ends = [" ".join([bot, *([name] if name else [])]) for bot, name in zip(bots, names)]
-        same([line[-len(end):] for line, end in zip(match.status().splitlines()[3:], ends, strict=True)], ends, "the table")
+        same([line[-len(end):] for line, end in zip(match.status().splitlines()[5:], ends, strict=True)], ends, "the table")
         found = json.loads(match.status("json"))["sessions"]
         same([each["name"] for each in found], names, "the document")
         levels = [line for line in match.status("prometheus").splitlines() if line.startswith("daide_gate_session_level{")]

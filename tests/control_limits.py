@@ -54,12 +54,12 @@ def seconds_of(text):
 
 
 def status_counts_seconds(program):
-    """The seconds since the run began, and those of silence, in each form."""
+    """The seconds since the run began, and those of silence, in each form. The table has none of the server's silence."""
     with Match(program, "endless = true") as match:
         match.opens()
         first = seconds_of(settled(match, "json", lambda text: min(seconds_of(text)) >= 1))
         head, *_, row = match.status().splitlines()
-        table = [int(word) for word in (head.split()[-2], *row.split()[-4:-2])]
+        table = [int(head.split()[-2]), int(row.split()[-2]), first[2]]
         metrics = [int(line.split()[-1]) for line in match.status("prometheus").splitlines()
                    if line.startswith(("daide_gate_up_seconds", "daide_gate_session_idle_seconds"))]
         last = seconds_of(match.status("json"))
@@ -114,7 +114,7 @@ def status_shows_150_sessions(program):
     with Match(program, f"max_sessions = {MANY}\nsessions = {MANY}") as match:
         bots = [address(match.opens()[0]) for _ in range(MANY)]
         wanted = [(number, bot) for number, bot in enumerate(bots, 1)]
-        rows = [line.split() for line in match.status().splitlines()[3:]]
+        rows = [line.split() for line in match.status().splitlines()[5:]]
         same([(int(row[0]), row[-1]) for row in rows], wanted, "the table")
         rows = json.loads(match.status("json"))["sessions"]
         same([(row["session"], row["bot"]) for row in rows], wanted, "the document")

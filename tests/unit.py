@@ -143,7 +143,7 @@ def unit_has_started_once_status_answers(program):
             slow.chmod(0o755)
             with Unit(slow, name, example(name)) as unit:
                 same(unit.starts(), [0], f"the statuses of the start with {name}.toml")
-                same(unit.status()[1:], COLUMNS.splitlines(), f"the status with {name}.toml")
+                same(unit.status()[3:], COLUMNS.splitlines(), f"the status with {name}.toml")
                 same(len(list(unit.folder.iterdir())), 1, f"the sockets with {name}.toml")
 
 
