@@ -204,7 +204,7 @@ def status_is_a_table(program):
 
 
 def status_counts_what_is_over(program):
-    """A session that is over counts as served, with its frames and its bytes, and a bot for which nobody listens as
+    """A session that is over counts as served, with its frames, and a bot for which nobody listens as
     unreached alone. Each has the cause of its end."""
     with Match(program, "sessions = 5") as match:
         bot, server = match.opens()
@@ -219,8 +219,6 @@ def status_counts_what_is_over(program):
                     "ended: 0 declined, 0 dropped, 1 FM of bot, 1 no server"], "the first lines")
         counts = json.loads(match.status("json"))["counts"]
         same(counts["frames"]["relayed"], {"bot": 2, "server": 1}, "the frames of the session that is over")
-        same(counts["bytes"], {"received": {"bot": len(IM + FM), "server": len(RM)},
-                               "sent": {"bot": len(RM), "server": len(IM + FM)}}, "its bytes")
         same({cause: count for cause, count in counts["ends"].items() if count}, {"FM of bot": 1, "no server": 1}, "the causes")
 
 
@@ -239,8 +237,6 @@ def status_is_a_document(program):
         nothing = {"bot": 0, "server": 0}
         same(found["counts"]["frames"], {"faults": 0, "relayed": {"bot": 2, "server": 2}, "prn": {"bot": 1, "server": 0},
                                          "huh": nothing}, "the frames of all sessions")
-        same(found["counts"]["bytes"], {"received": {"bot": 22, "server": 16}, "sent": {"bot": 30, "server": 14}},
-             "the bytes of all sessions")
         same((len(found["counts"]["ends"]), sum(found["counts"]["ends"].values())), (18, 0), "the ends of all sessions")
         first, second = found["sessions"]
         same((first["session"], first["bot"], first["phase"], first["level"]), (1, address(bot), "open", 0), "session 1")
@@ -287,8 +283,6 @@ def status_has_metrics(program):
         for side, direction, count in (("bot", "received", 22), ("server", "received", 16), ("bot", "sent", 30), ("server", "sent", 14)):
             name = f'daide_gate_session_bytes_total{{{labels},side="{side}",direction="{direction}"}}'
             same(values[name], count, f"bytes {direction}, {side}")
-            name = f'daide_gate_bytes_total{{side="{side}",direction="{direction}"}}'
-            same(values[name], count, f"all bytes {direction}, {side}")
         same(values[f'daide_gate_session_level{{{labels},phase="open"}}'], 0, "level")
 
 

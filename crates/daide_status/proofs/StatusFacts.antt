@@ -69,7 +69,6 @@ busy_counts = record {
   bot = record { relayed = 1000; prn = 200; huh = 300 };
   server = record { relayed = 2000; prn = 400; huh = 500 };
   faults = 60;
-  traffic = record { received_from_bot = 1000000; received_from_server = 2000000; sent_to_bot = 3000000; sent_to_server = 4000000 };
   ends = some_ends;
   declined = 21;
   dropped = 22;
@@ -205,7 +204,7 @@ document_of_none : status_text Json idle_run []
     ≡ codes "{\"open\":0,\"connecting\":0,\"served\":0,\"unreached\":0,\"bots_may_wait\":false,\"stopping\":false,\"seconds\":7"
     ++ codes ",\"server\":{\"state\":\"untried\",\"seconds\":7,\"unreached\":0},\"sessions\":["
     ++ codes "\n],\"counts\":{\"declined\":0,\"dropped\":0,\"frames\":{\"faults\":0,\"relayed\":{\"bot\":0,\"server\":0},\"prn\":{\"bot\":0,\"server\":0}"
-    ++ codes ",\"huh\":{\"bot\":0,\"server\":0}},\"bytes\":{\"received\":{\"bot\":0,\"server\":0},\"sent\":{\"bot\":0,\"server\":0}}"
+    ++ codes ",\"huh\":{\"bot\":0,\"server\":0}}"
     ++ codes ",\"ends\":{\"bot ended\":0,\"server ended\":0,\"bot lost\":0,\"server lost\":0,\"FM of bot\":0,\"FM of server\":0"
     ++ codes ",\"EM of bot\":0,\"EM of server\":0,\"fault of bot\":0,\"fault of server\":0,\"no IM in time\":0,\"stopped by the operator\":0"
     ++ codes ",\"bot silent\":0,\"server silent\":0,\"bot took nothing\":0,\"server took nothing\":0,\"turns spent\":0,\"no server\":0}}}\n"
@@ -229,7 +228,6 @@ abbrev counts_of_one : List ℕ
 counts_of_one =
     codes "\n],\"counts\":{\"declined\":21,\"dropped\":22,\"frames\":{\"faults\":66,\"relayed\":{\"bot\":1087,\"server\":2095}"
     ++ codes ",\"prn\":{\"bot\":202,\"server\":407},\"huh\":{\"bot\":303,\"server\":508}}"
-    ++ codes ",\"bytes\":{\"received\":{\"bot\":1001234,\"server\":2567890},\"sent\":{\"bot\":3098765,\"server\":4004321}}"
     ++ ends_members
 
 -- and with the second
@@ -237,7 +235,6 @@ abbrev counts_of_two : List ℕ
 counts_of_two =
     codes "\n],\"counts\":{\"declined\":21,\"dropped\":22,\"frames\":{\"faults\":66,\"relayed\":{\"bot\":1088,\"server\":2095}"
     ++ codes ",\"prn\":{\"bot\":202,\"server\":407},\"huh\":{\"bot\":303,\"server\":508}}"
-    ++ codes ",\"bytes\":{\"received\":{\"bot\":1001242,\"server\":2567890},\"sent\":{\"bot\":3098765,\"server\":4004328}}"
     ++ ends_members
 
 abbrev first_object : List ℕ
@@ -325,11 +322,6 @@ idle_metrics =
     ++ codes "daide_gate_frames_total{side=\"server\",result=\"prn\"} 0\n"
     ++ codes "daide_gate_frames_total{side=\"server\",result=\"huh\"} 0\n"
     ++ codes "daide_gate_frames_total{result=\"fault\"} 0\n"
-    ++ codes "# HELP daide_gate_bytes_total Bytes of all sessions, also of those that ended, by side and by direction.\n# TYPE daide_gate_bytes_total counter\n"
-    ++ codes "daide_gate_bytes_total{side=\"bot\",direction=\"received\"} 0\n"
-    ++ codes "daide_gate_bytes_total{side=\"server\",direction=\"received\"} 0\n"
-    ++ codes "daide_gate_bytes_total{side=\"bot\",direction=\"sent\"} 0\n"
-    ++ codes "daide_gate_bytes_total{side=\"server\",direction=\"sent\"} 0\n"
 
 metrics_of_none : status_text Prometheus idle_run []
     ≡ idle_metrics ++ frames_head ++ bytes_head ++ waiting_head ++ idle_head ++ level_head
@@ -383,11 +375,6 @@ totals_of_one =
     ++ codes "daide_gate_frames_total{side=\"server\",result=\"prn\"} 407\n"
     ++ codes "daide_gate_frames_total{side=\"server\",result=\"huh\"} 508\n"
     ++ codes "daide_gate_frames_total{result=\"fault\"} 66\n"
-    ++ codes "# HELP daide_gate_bytes_total Bytes of all sessions, also of those that ended, by side and by direction.\n# TYPE daide_gate_bytes_total counter\n"
-    ++ codes "daide_gate_bytes_total{side=\"bot\",direction=\"received\"} 1001234\n"
-    ++ codes "daide_gate_bytes_total{side=\"server\",direction=\"received\"} 2567890\n"
-    ++ codes "daide_gate_bytes_total{side=\"bot\",direction=\"sent\"} 3098765\n"
-    ++ codes "daide_gate_bytes_total{side=\"server\",direction=\"sent\"} 4004321\n"
 
 -- and with the second
 abbrev totals_of_two : List ℕ
@@ -421,11 +408,6 @@ totals_of_two =
     ++ codes "daide_gate_frames_total{side=\"server\",result=\"prn\"} 407\n"
     ++ codes "daide_gate_frames_total{side=\"server\",result=\"huh\"} 508\n"
     ++ codes "daide_gate_frames_total{result=\"fault\"} 66\n"
-    ++ codes "# HELP daide_gate_bytes_total Bytes of all sessions, also of those that ended, by side and by direction.\n# TYPE daide_gate_bytes_total counter\n"
-    ++ codes "daide_gate_bytes_total{side=\"bot\",direction=\"received\"} 1001242\n"
-    ++ codes "daide_gate_bytes_total{side=\"server\",direction=\"received\"} 2567890\n"
-    ++ codes "daide_gate_bytes_total{side=\"bot\",direction=\"sent\"} 3098765\n"
-    ++ codes "daide_gate_bytes_total{side=\"server\",direction=\"sent\"} 4004328\n"
 
 abbrev first_frames : List ℕ
 first_frames =
@@ -501,7 +483,6 @@ counted_up :
       bot = record { relayed = 86; prn = 2; huh = 8 };
       server = record { relayed = 95; prn = 7; huh = 8 };
       faults = 2;
-      traffic = record { received_from_bot = 1234; received_from_server = 567890; sent_to_bot = 98765; sent_to_server = 4321 };
     })
 counted_up = refl
 

@@ -8,7 +8,6 @@ use Rattle.daide_status.specs.declared.counts.EndCause.{EndCause}
 use Rattle.daide_status.specs.declared.counts.EndCause.TheVariants.{Ended, Lost, Final, Error, Fault, NoIm, Stopped, Silent, Stalled, TurnsSpent, NoServer}
 use Rattle.daide_status.specs.declared.counts.EndCounts.{EndCounts}
 use Rattle.daide_status.specs.declared.counts.RunCounts.{RunCounts}
-use Rattle.daide_status.specs.declared.counts.Traffic.{Traffic}
 use Rattle.daide_status.specs.declared.snapshot.SessionRow.{SessionRow}
 
 -- a count with a further one
@@ -113,7 +112,7 @@ end_counted (Stalled Server) e = record e { server_stalled = count_sum e.server_
 end_counted TurnsSpent e = record e { turns_spent = count_sum e.turns_spent 1 }
 end_counted NoServer e = record e { no_server = count_sum e.no_server 1 }
 
--- ---- frames and bytes
+-- ---- frames
 
 -- the counts of a side with further ones
 abbrev pub side_sum : SideCounts → SideCounts → SideCounts
@@ -123,18 +122,6 @@ side_sum c more = record {
   huh = count_sum c.huh more.huh;
 }
 
-abbrev pub no_traffic : Traffic
-no_traffic = record { received_from_bot = 0; received_from_server = 0; sent_to_bot = 0; sent_to_server = 0 }
-
--- the bytes with further ones
-abbrev pub traffic_sum : Traffic → Traffic → Traffic
-traffic_sum t more = record {
-  received_from_bot = count_sum t.received_from_bot more.received_from_bot;
-  received_from_server = count_sum t.received_from_server more.received_from_server;
-  sent_to_bot = count_sum t.sent_to_bot more.sent_to_bot;
-  sent_to_server = count_sum t.sent_to_server more.sent_to_server;
-}
-
 -- ---- the counts of a run
 
 abbrev pub no_counts : RunCounts
@@ -142,19 +129,17 @@ no_counts = record {
   bot = no_frames;
   server = no_frames;
   faults = 0;
-  traffic = no_traffic;
   ends = no_ends;
   declined = 0;
   dropped = 0;
 }
 
--- with the frames, the faults and the bytes of a session
-abbrev pub session_counted : Account → Traffic → RunCounts → RunCounts
-session_counted account traffic c = record c {
+-- with the frames and the faults of a session
+abbrev pub session_counted : Account → RunCounts → RunCounts
+session_counted account c = record c {
   bot = side_sum c.bot account.bot;
   server = side_sum c.server account.server;
   faults = count_sum c.faults account.faults;
-  traffic = traffic_sum c.traffic traffic;
 }
 
 -- after one more session that ended by a cause
@@ -170,18 +155,9 @@ dropped_counted c = record c { dropped = count_sum c.dropped 1 }
 
 -- ---- with the sessions that are present
 
--- the bytes of a session
-abbrev pub row_traffic : SessionRow → Traffic
-row_traffic row = record {
-  received_from_bot = row.received_from_bot;
-  received_from_server = row.received_from_server;
-  sent_to_bot = row.sent_to_bot;
-  sent_to_server = row.sent_to_server;
-}
-
--- with the frames, the faults and the bytes of a session that is present
+-- with the frames and the faults of a session that is present
 abbrev pub row_counted : SessionRow → RunCounts → RunCounts
-row_counted row c = session_counted row.account (row_traffic row) c
+row_counted row c = session_counted row.account c
 
 -- the counts of a run with those of these sessions
 abbrev pub totals_of : List SessionRow → RunCounts → RunCounts

@@ -16,7 +16,6 @@ use Rattle.daide_status.specs.declared.counts.EndCause.{EndCause}
 use Rattle.daide_status.specs.declared.counts.EndCause.TheVariants.{Ended}
 use Rattle.daide_status.specs.declared.counts.EndCounts.{EndCounts}
 use Rattle.daide_status.specs.declared.counts.RunCounts.{RunCounts}
-use Rattle.daide_status.specs.declared.counts.Traffic.{Traffic}
 use Rattle.daide_status.specs.declared.snapshot.RunStatus.{RunStatus}
 use Rattle.daide_status.specs.declared.snapshot.ServerStatus.{ServerStatus}
 use Rattle.daide_status.specs.declared.snapshot.SessionRow.{SessionRow}
@@ -126,13 +125,6 @@ json_lost c =
     codes "\n],\"counts\":{\"declined\":" ++ decimal c.declined ++ codes ",\"dropped\":" ++ decimal c.dropped
     ++ codes ",\"frames\":{\"faults\":" ++ decimal c.faults
 
--- the bytes of all sessions
-abbrev pub json_traffic : Traffic → List ℕ
-json_traffic t =
-    codes "},\"bytes\":{\"received\":{\"bot\":" ++ decimal t.received_from_bot ++ codes ",\"server\":"
-    ++ decimal t.received_from_server ++ codes "},\"sent\":{\"bot\":" ++ decimal t.sent_to_bot ++ codes ",\"server\":"
-    ++ decimal t.sent_to_server ++ codes "}},\"ends\":{"
-
 -- the number of sessions that ended by a cause
 unfoldable pub json_ended : EndCause → ℕ → List ℕ
 json_ended cause count = codes "\"" ++ end_cause_name cause ++ codes "\":" ++ decimal count
@@ -149,4 +141,4 @@ json_ends e =
 -- the end of the array, what the run counted, and the end of the document
 abbrev pub json_end : RunCounts → List ℕ
 json_end c =
-    json_lost c ++ json_counters c.bot c.server ++ json_traffic c.traffic ++ json_ends c.ends ++ codes "}}}\n"
+    json_lost c ++ json_counters c.bot c.server ++ codes "},\"ends\":{" ++ json_ends c.ends ++ codes "}}}\n"

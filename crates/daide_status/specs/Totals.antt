@@ -8,7 +8,6 @@ use Rattle.daide_protocol.specs.AccountText.{counter_name}
 use Rattle.daide_status.specs.declared.counts.EndCause.{EndCause}
 use Rattle.daide_status.specs.declared.counts.EndCounts.{EndCounts}
 use Rattle.daide_status.specs.declared.counts.RunCounts.{RunCounts}
-use Rattle.daide_status.specs.declared.counts.Traffic.{Traffic}
 use Rattle.daide_status.specs.Counts.{all_causes, end_cause_name, end_count}
 use Rattle.daide_status.specs.Metrics.{metric_head, run_metric}
 
@@ -32,7 +31,7 @@ abbrev pub end_metric : EndCounts → List ℕ
 end_metric ends =
     metric_head (codes "ended_total") (codes "counter") (codes "Sessions that ended, by cause.") ++ end_samples ends
 
--- ---- frames and bytes
+-- ---- frames
 
 -- the number of frames from a side that a counter of this name counts
 unfoldable pub side_total : List ℕ → List ℕ → ℕ → List ℕ
@@ -54,22 +53,6 @@ frame_metric c =
     metric_head (codes "frames_total") (codes "counter")
     (codes "Frames of all sessions, also of those that ended, by side and by what was done with them.") ++ frame_totals c
 
--- the bytes received from each side, and those sent to each
-abbrev pub byte_total : List ℕ → ℕ → List ℕ
-byte_total labels count = labelled_sample (codes "bytes_total") labels count
-
-abbrev pub byte_totals : Traffic → List ℕ
-byte_totals t =
-    byte_total (codes "side=\"bot\",direction=\"received\"") t.received_from_bot
-    ++ byte_total (codes "side=\"server\",direction=\"received\"") t.received_from_server
-    ++ byte_total (codes "side=\"bot\",direction=\"sent\"") t.sent_to_bot
-    ++ byte_total (codes "side=\"server\",direction=\"sent\"") t.sent_to_server
-
-abbrev pub byte_metric : Traffic → List ℕ
-byte_metric t =
-    metric_head (codes "bytes_total") (codes "counter")
-    (codes "Bytes of all sessions, also of those that ended, by side and by direction.") ++ byte_totals t
-
 -- ---- all of them
 
 -- the connections that got no session
@@ -81,4 +64,4 @@ lost_metrics c =
     (codes "Connections that were accepted, and that the system could not follow.") c.dropped
 
 abbrev pub total_metrics : RunCounts → List ℕ
-total_metrics c = lost_metrics c ++ end_metric c.ends ++ frame_metric c ++ byte_metric c.traffic
+total_metrics c = lost_metrics c ++ end_metric c.ends ++ frame_metric c

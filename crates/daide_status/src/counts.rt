@@ -2,7 +2,7 @@
 
 ghost use Rattle.std.specs.Prelude.{◌≡◌};
 ghost use Rattle.daide_status.specs.Counts.{end_cause_name, count_sum, declined_counted, dropped_counted, end_count, end_counted, ending_counted};
-ghost use Rattle.daide_status.specs.Counts.{no_counts, no_ends, no_traffic, session_counted, side_sum, traffic_sum};
+ghost use Rattle.daide_status.specs.Counts.{no_counts, no_ends, session_counted, side_sum};
 
 use daide_frame::Side;
 use daide_protocol::{Account, SideCounts};
@@ -57,16 +57,7 @@ pub struct EndCounts {
     pub no_server: u64,
 }
 
-/// The bytes received from each side, and those sent to each.
-#[derive(Clone, Copy)]
-pub struct Traffic {
-    pub received_from_bot: u64,
-    pub received_from_server: u64,
-    pub sent_to_bot: u64,
-    pub sent_to_server: u64,
-}
-
-/// What a run counts. In a `RunStatus` the frames, faults and bytes are those of the sessions that ended; a text adds
+/// What a run counts. In a `RunStatus` the frames and faults are those of the sessions that ended; a text adds
 /// those of its rows, so that a count never decreases when a session ends.
 #[derive(Clone, Copy)]
 pub struct RunCounts {
@@ -76,8 +67,6 @@ pub struct RunCounts {
     pub server: SideCounts,
     /// Faults of both sides.
     pub faults: u64,
-    /// The bytes of both sides.
-    pub traffic: Traffic,
     /// The sessions that ended.
     pub ends: EndCounts,
     /// Connections that were closed at once, since their bot may not come.
@@ -235,32 +224,6 @@ impl EndCounts {
     }
 }
 
-impl Traffic {
-    /// Returns no bytes.
-    pub fn new() -> Traffic
-        ensures { result ≡ no_traffic }
-    {
-        Traffic {
-            received_from_bot: 0,
-            received_from_server: 0,
-            sent_to_bot: 0,
-            sent_to_server: 0,
-        }
-    }
-
-    /// Returns these bytes with further ones.
-    fn sum(self, more: Traffic) -> Traffic
-        ensures { result ≡ traffic_sum self more }
-    {
-        Traffic {
-            received_from_bot: count_sum(self.received_from_bot, more.received_from_bot),
-            received_from_server: count_sum(self.received_from_server, more.received_from_server),
-            sent_to_bot: count_sum(self.sent_to_bot, more.sent_to_bot),
-            sent_to_server: count_sum(self.sent_to_server, more.sent_to_server),
-        }
-    }
-}
-
 impl RunCounts {
     /// Returns the counts of a run that begins.
     pub fn new() -> RunCounts
@@ -270,21 +233,19 @@ impl RunCounts {
             bot: SideCounts::new(),
             server: SideCounts::new(),
             faults: 0,
-            traffic: Traffic::new(),
             ends: EndCounts::new(),
             declined: 0,
             dropped: 0,
         }
     }
 
-    /// Adds the frames, the faults and the bytes of a session.
-    pub fn add_session(&mut self, account: &Account, traffic: Traffic)
-        ensures { self.new ≡ session_counted account.now traffic self.old }
+    /// Adds the frames and the faults of a session.
+    pub fn add_session(&mut self, account: &Account)
+        ensures { self.new ≡ session_counted account.now self.old }
     {
         self.bot = side_sum(self.bot, account.bot);
         self.server = side_sum(self.server, account.server);
         self.faults = count_sum(self.faults, account.faults);
-        self.traffic = self.traffic.sum(traffic);
     }
 
     /// Counts one more session that ended by a cause.

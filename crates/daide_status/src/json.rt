@@ -1,10 +1,10 @@
 //! The status as one JSON document: the members of the run, and an array with an object for each session.
 
 ghost use Rattle.daide_status.specs.Pieces.{AppendsOrRefused};
-ghost use Rattle.daide_status.specs.Json.{json_counters, json_end, json_ended, json_ends, json_further, json_lost, json_server, json_traffic};
+ghost use Rattle.daide_status.specs.Json.{json_counters, json_end, json_ended, json_ends, json_further, json_lost, json_server};
 ghost use Rattle.daide_status.specs.Json.{json_counts, json_faults, json_head, json_identity, json_bytes, json_idle, json_waiting, json_name, json_port, json_row, json_run_counts, json_run_state, json_sides, json_session, name_or_null};
 
-use crate::counts::{EndCause, EndCounts, RunCounts, Traffic};
+use crate::counts::{EndCause, EndCounts, RunCounts};
 use crate::pieces::{phase_name, port_number, put_or_null, put_quoted_name};
 use crate::snapshot::{RunStatus, ServerStatus, SessionRow};
 use daide_causes::Growth;
@@ -277,24 +277,6 @@ fn put_lost_members<A: Growth>(counts: &RunCounts, out: &mut Vec<u8, A>) -> Resu
     )
 }
 
-/// Appends the bytes of all sessions.
-fn put_traffic<A: Growth>(traffic: Traffic, out: &mut Vec<u8, A>) -> Result<(), AllocError>
-    ensures { AppendsOrRefused A.Refuses out.old out.new result (json_traffic traffic) }
-{
-    let Traffic {
-        received_from_bot,
-        received_from_server,
-        sent_to_bot,
-        sent_to_server,
-    } = traffic;
-    A::append_text(
-        out,
-        format_args!(
-            "}},\"bytes\":{{\"received\":{{\"bot\":{received_from_bot},\"server\":{received_from_server}}},\"sent\":{{\"bot\":{sent_to_bot},\"server\":{sent_to_server}}}}},\"ends\":{{"
-        ),
-    )
-}
-
 /// Appends the number of sessions that ended by a cause.
 fn put_ended<A: Growth>(cause: EndCause, count: u64, out: &mut Vec<u8, A>) -> Result<(), AllocError>
     ensures { AppendsOrRefused A.Refuses out.old out.new result (json_ended cause count) }
@@ -335,7 +317,7 @@ pub(crate) fn put_json_end<A: Growth>(
 {
     put_lost_members(counts, out)?;
     put_counters(&counts.bot, &counts.server, out)?;
-    put_traffic(counts.traffic, out)?;
+    A::append(out, b"},\"ends\":{")?;
     put_ends(&counts.ends, out)?;
     A::append(out, b"}}}\n")
 }

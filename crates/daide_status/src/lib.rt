@@ -15,7 +15,7 @@ pub mod text;
 mod totals;
 pub mod version;
 
-pub use counts::{EndCause, EndCounts, RunCounts, Traffic};
+pub use counts::{EndCause, EndCounts, RunCounts};
 pub use request::{ControlRequest, Format};
 pub use snapshot::{RunStatus, ServerState, ServerStatus, SessionRow};
 pub use text::StatusText;

@@ -1,10 +1,9 @@
 //! The status of a run and of a session, as values.
 
 ghost use Rattle.std.specs.Prelude.{◌≡◌};
-ghost use Rattle.daide_status.specs.Counts.{row_traffic};
 ghost use Rattle.daide_status.specs.Pieces.{server_state_name};
 
-use crate::counts::{RunCounts, Traffic};
+use crate::counts::RunCounts;
 use daide_grammar::Level;
 use daide_protocol::{Account, Phase};
 use std::net::SocketAddr;
@@ -63,7 +62,7 @@ pub struct RunStatus {
     pub seconds: u64,
     /// The state of the server.
     pub server: ServerStatus,
-    /// What the run counted. The frames, faults and bytes are those of the sessions that ended.
+    /// What the run counted. The frames and faults are those of the sessions that ended.
     pub counts: RunCounts,
 }
 
@@ -100,18 +99,4 @@ pub struct SessionRow {
     pub bot_idle: Option<u64>,
     /// The seconds since the server's last byte; `None` if it has sent none.
     pub server_idle: Option<u64>,
-}
-
-impl SessionRow {
-    /// Returns the bytes of the session.
-    pub(crate) fn traffic(&self) -> Traffic
-        ensures { result ≡ row_traffic self.now }
-    {
-        Traffic {
-            received_from_bot: self.received_from_bot,
-            received_from_server: self.received_from_server,
-            sent_to_bot: self.sent_to_bot,
-            sent_to_server: self.sent_to_server,
-        }
-    }
 }

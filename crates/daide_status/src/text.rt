@@ -104,7 +104,7 @@ impl<A: Growth + Copy> StatusText<A> {
         ensures added { OnOk result (status_view self.new ≡ with_row row.now (status_view self.old)) }
         ensures refused { OnErr result (WasRefused A.Refuses) }
     {
-        self.counts.add_session(&row.account, row.traffic());
+        self.counts.add_session(&row.account);
         match self.format {
             Format::Table => table::put_table_row(row, &mut self.text),
             Format::Json => self.add_object(row),

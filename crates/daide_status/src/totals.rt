@@ -2,10 +2,10 @@
 
 ghost use Rattle.std.specs.Prelude.{◌≡◌, codes};
 ghost use Rattle.daide_status.specs.Pieces.{AppendsOrRefused};
-ghost use Rattle.daide_status.specs.Totals.{byte_metric, byte_totals, end_metric, end_sample, end_samples, frame_metric};
-ghost use Rattle.daide_status.specs.Totals.{byte_total, frame_totals, labelled_sample, lost_metrics, side_total, side_totals, total_metrics};
+ghost use Rattle.daide_status.specs.Totals.{end_metric, end_sample, end_samples, frame_metric};
+ghost use Rattle.daide_status.specs.Totals.{frame_totals, labelled_sample, lost_metrics, side_total, side_totals, total_metrics};
 
-use crate::counts::{EndCause, EndCounts, RunCounts, Traffic};
+use crate::counts::{EndCause, EndCounts, RunCounts};
 use crate::metrics::{put_metric, put_run_metric};
 use daide_causes::Growth;
 use daide_protocol::{Counter, SideCounts};
@@ -108,50 +108,6 @@ fn put_frame_metric<A: Growth>(counts: &RunCounts, out: &mut Vec<u8, A>) -> Resu
     put_frame_totals(counts, out)
 }
 
-/// Appends the number of bytes of all sessions with this side and this direction.
-fn put_byte_total<A: Growth>(
-    labels: &str,
-    count: u64,
-    out: &mut Vec<u8, A>,
-) -> Result<(), AllocError>
-    ensures { AppendsOrRefused A.Refuses out.old out.new result (byte_total labels.now count) }
-{
-    put_labelled("bytes_total", labels, count, out)
-}
-
-/// Appends the bytes received from each side, and those sent to each.
-fn put_byte_totals<A: Growth>(traffic: Traffic, out: &mut Vec<u8, A>) -> Result<(), AllocError>
-    ensures { AppendsOrRefused A.Refuses out.old out.new result (byte_totals traffic) }
-{
-    let Traffic {
-        received_from_bot,
-        received_from_server,
-        sent_to_bot,
-        sent_to_server,
-    } = traffic;
-    put_byte_total(
-        "side=\"bot\",direction=\"received\"",
-        received_from_bot,
-        out,
-    )?;
-    put_byte_total(
-        "side=\"server\",direction=\"received\"",
-        received_from_server,
-        out,
-    )?;
-    put_byte_total("side=\"bot\",direction=\"sent\"", sent_to_bot, out)?;
-    put_byte_total("side=\"server\",direction=\"sent\"", sent_to_server, out)
-}
-
-/// Appends the metric of the bytes of all sessions.
-fn put_byte_metric<A: Growth>(traffic: Traffic, out: &mut Vec<u8, A>) -> Result<(), AllocError>
-    ensures { AppendsOrRefused A.Refuses out.old out.new result (byte_metric traffic) }
-{
-    let help = "Bytes of all sessions, also of those that ended, by side and by direction.";
-    put_metric("bytes_total", "counter", help, out)?;
-    put_byte_totals(traffic, out)
-}
-
 /// Appends the metrics of the connections that got no session.
 fn put_lost<A: Growth>(counts: &RunCounts, out: &mut Vec<u8, A>) -> Result<(), AllocError>
     ensures { AppendsOrRefused A.Refuses out.old out.new result (lost_metrics counts.now) }
@@ -171,6 +127,5 @@ pub(crate) fn put_total_metrics<A: Growth>(
 {
     put_lost(counts, out)?;
     put_ends(&counts.ends, out)?;
-    put_frame_metric(counts, out)?;
-    put_byte_metric(counts.traffic, out)
+    put_frame_metric(counts, out)
 }
