@@ -1,5 +1,5 @@
 -- Ports over two streams move the bytes of their calls, in a run too.
-use Rattle.std.proofs.Common.{◌≡◌, ℕ, List, [], ◌∷◌, Option, ap}
+use Rattle.std.proofs.Common.{ℕ, List, [], ◌∷◌, Option, ap}
 use Rattle.std.specs.Prelude.{Contains}
 use Rattle.daide_frame.specs.PerSide.{PerSide}
 use Rattle.daide_io.specs.Ports.{PortCall, TurnBegins, Clock, Pulled, Offered, EvolvesBy}

@@ -1,5 +1,5 @@
 -- How a run ends, by the calls that the loop made of a system over sockets.
-use Rattle.std.proofs.Common.{◌≡◌, ℕ, zero, suc, ◌+◌, ◌*◌, List, [], ◌∷◌, Option, None, Some, Result, Ok, Err, inl, inr, ap, sym, subst}
+use Rattle.std.proofs.Common.{◌≡◌, ℕ, zero, suc, ◌+◌, ◌*◌, List, [], ◌∷◌, Option, None, Result, Ok, Err, inl, inr, ap, sym, subst}
 use Rattle.std.proofs.Common.{refl, ◌∙◌}
 use Rattle.std.proofs.lemmas.List.{length-replicate}
 use Rattle.std.specs.Prelude.{replicate}
@@ -21,13 +21,12 @@ use Rattle.daide_sockets.specs.Lingering.{ClosingList}
 use Rattle.daide_sockets.specs.Rows.{AreRowsOf}
 use Rattle.daide_sockets.specs.Scheduling.{RunEvolves, RunState}
 use Rattle.daide_sockets.specs.Table.{Table, free_row, new_table, row_at}
-use Rattle.daide_run.specs.declared.gateway.GatewayFault.TheVariants as gateway_faults
 use Rattle.daide_run.specs.declared.running.RunFault.{RunFault}
 use Rattle.daide_run.specs.declared.running.RunFault.TheVariants.{Gateway, Memory, Record}
 use Rattle.daide_run.specs.declared.running.RunFault.TheVariants as run_faults
-use Rattle.daide_run.specs.Folder.{CallRecords, RecordHead, TraceRecords, head_for}
+use Rattle.daide_run.specs.Folder.{CallRecords, RecordEvents, RecordHead, TraceRecords, head_for}
 use Rattle.daide_run.specs.Gateway.{Announces}
-use Rattle.daide_run.specs.Running.{RunsBy, Serves, RunEnds, SettingsRun, IsBeforeRun, ending_by}
+use Rattle.daide_run.specs.Running.{Serves, RunEnds, SettingsRun, IsBeforeRun}
 
 -- a row among free rows is not taken
 free_there : (count key : ℕ) → one_if (row_at (replicate count free_row) key).is_taken ≡ 0
@@ -46,7 +45,7 @@ none_taken table places e = subst (λ (t : Table). AreRowsOf t []) (sym e) (reco
 
 module _ {N C S : Type 0} (transition : N → NetworkCall C → N → Type 0) (to_give taken : S → Option (List ℕ))
     (calls : S → Option (List StreamCall))
-    (port_transition : Recorded (SocketPorts S) → PortCall → Recorded (SocketPorts S) → Type 0) (record_failed : Type 0) where
+    (port_transition : Recorded (SocketPorts S) → PortCall → Recorded (SocketPorts S) → Type 0) (outside : RecordEvents) where
   abbrev P : Type 0
   P = Recorded (SocketPorts S)
 
@@ -56,7 +55,7 @@ module _ {N C S : Type 0} (transition : N → NetworkCall C → N → Type 0) (t
   -- A system whose calls evolve the sockets of a run, and begin records with a head that stays.
   module _ {T : Type 0} (state_of : T → RunState N S) (head_of : T → RecordHead) (step : T → SystemCall P → T → Type 0)
       (evolves : (old : T) (call : SystemCall P) (new : T) → step old call new → Evolves (state_of old) call (state_of new)
-      × CallRecords record_failed (head_of old) call × (head_of new ≡ head_of old)) where
+      × CallRecords outside (head_of old) call × (head_of new ≡ head_of old)) where
     states_go : (trace : List (SystemCall P)) (old new : T) → TransitsBy step old trace new →
         TransitsBy Evolves (state_of old) trace (state_of new)
     states_go [] old new e = ap state_of e
@@ -64,12 +63,12 @@ module _ {N C S : Type 0} (transition : N → NetworkCall C → N → Type 0) (t
         (state_of h.0, (evolves old call h.0 h.1).0, states_go trace h.0 new h.2)
 
     records_go : (trace : List (SystemCall P)) (old new : T) → TransitsBy step old trace new →
-        TraceRecords record_failed (head_of old) trace
+        TraceRecords outside (head_of old) trace
     records_go [] old new e = tt
     records_go (call ∷ trace) old new h =
         let stepped = evolves old call h.0 h.1 in (
           stepped.1,
-          subst (λ (head : RecordHead). TraceRecords record_failed head trace) stepped.2 (records_go trace h.0 new h.2),
+          subst (λ (head : RecordHead). TraceRecords outside head trace) stepped.2 (records_go trace h.0 new h.2),
         )
 
     -- a run on it ends by the result of its loop, and then waits
@@ -81,7 +80,7 @@ module _ {N C S : Type 0} (transition : N → NetworkCall C → N → Type 0) (t
         × GivesUp (λ n. Unit {0}) port_transition settings fault trace) →
         FinishesAll transition to_give taken calls 18446744073709551615 (state_of ended).network
         (state_of ended).table.reading (state_of ended).closing last →
-        Serves transition to_give taken calls port_transition record_failed (head_of begun) settings failed before after
+        Serves transition to_give taken calls port_transition outside (head_of begun) settings failed before after
         (state_of begun) served
     serves_from settings failed before after begun ended last (Ok done) said whole given_up waits = (
       said,
@@ -118,13 +117,13 @@ module _ {N C S : Type 0} (transition : N → NetworkCall C → N → Type 0) (t
         × GivesUp (λ n. Unit {0}) port_transition settings fault trace) →
         FinishesAll transition to_give taken calls 18446744073709551615 (state_of ended).network
         (state_of ended).table.reading (state_of ended).closing last →
-        Serves transition to_give taken calls port_transition record_failed head settings failed before after opened served
+        Serves transition to_give taken calls port_transition outside head settings failed before after opened served
     serves_on settings failed before after begun ended opened head last served same same_head said whole given_up waits =
         subst (λ (s : RunState N S).
-        Serves transition to_give taken calls port_transition record_failed head settings failed before after s served)
+        Serves transition to_give taken calls port_transition outside head settings failed before after s served)
         same
         (subst (λ (h : RecordHead).
-        Serves transition to_give taken calls port_transition record_failed h settings failed before after (state_of begun) served)
+        Serves transition to_give taken calls port_transition outside h settings failed before after (state_of begun) served)
         same_head (serves_from settings failed before after begun ended last served said whole given_up waits))
 
   -- what does not begin without records does not begin with them
@@ -137,9 +136,9 @@ module _ {N C S : Type 0} (transition : N → NetworkCall C → N → Type 0) (t
 
   pub runs_with : {F : Type 0} (records : Option F) (head : RecordHead) (settings : Settings) (failed : Type 0)
       (before after : Option (List ℕ)) (result : Result (Unit {0}) RunFault) → head ≡ head_for settings records →
-      SettingsRun {F = Unit {0}} None transition to_give taken calls port_transition record_failed head settings failed before
+      SettingsRun {F = Unit {0}} None transition to_give taken calls port_transition outside head settings failed before
       after result →
-      SettingsRun records transition to_give taken calls port_transition record_failed (head_for settings records) settings
+      SettingsRun records transition to_give taken calls port_transition outside (head_for settings records) settings
       failed before after result
   runs_with records head settings failed before after result same (inl h) =
       inl (h.0, h.1, h.2, before_with records settings h.0 h.3)
@@ -147,6 +146,6 @@ module _ {N C S : Type 0} (transition : N → NetworkCall C → N → Type 0) (t
       inr (
         h.0,
         subst (λ (with : RecordHead).
-            RunEnds transition to_give taken calls port_transition record_failed with settings failed h.0 before after result)
+            RunEnds transition to_give taken calls port_transition outside with settings failed h.0 before after result)
             same h.1,
       )

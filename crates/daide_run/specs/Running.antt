@@ -1,6 +1,5 @@
 -- The effect of a run, from its network and its settings on. (own)
 use Rattle.std.specs.Prelude.{◌≡◌, ◌≢◌, ◌⊎◌, ℕ, List, Option, Some, Result, Ok, Err}
-use Rattle.std.specs.declared.io.ErrorKind.{ErrorKind}
 use Rattle.std.specs.declared.time.Duration.{Duration}
 use Rattle.toml.specs.Parse.{parse_document}
 use Rattle.daide_io.specs.Network.{NetworkCall}
@@ -22,7 +21,7 @@ use Rattle.daide_sockets.specs.Lingering.{ClosingList, no_closing}
 use Rattle.daide_sockets.specs.Pairing.{RunSockets, pending_connects}
 use Rattle.daide_sockets.specs.Scheduling.{BeginsListening, HoldsRows, RunEvolves, RunState, sockets_in}
 use Rattle.daide_sockets.specs.Clock.{IsIdleTime}
-use Rattle.daide_run.specs.Folder.{RecordHead, TraceRecords, head_for}
+use Rattle.daide_run.specs.Folder.{RecordEvents, RecordHead, TraceRecords, head_for}
 use Rattle.daide_run.specs.Gateway.{Announces, IsBeforeServing}
 use Rattle.daide_run.specs.declared.gateway.GatewayFault.TheVariants as gateway_faults
 use Rattle.daide_run.specs.declared.running.RunFault.{RunFault}
@@ -51,20 +50,21 @@ ending_by (Ok done) = Ok done
 ending_by (Err fault) = Err (Gateway (gateway_faults.Serve fault))
 
 -- The runs of these settings over networks with this relation, whose sessions have records with this head, if it has one.
--- `record_failed` says that a write of a record failed, and `failed` that one of the output did.
+-- `outside` says what happened to the records, and `failed` that a write of the output failed.
 module _ {N C S : Type 0} (transition : N → NetworkCall C → N → Type 0) (to_give taken : S → Option (List ℕ))
     (calls : S → Option (List StreamCall))
-    (port_transition : Recorded (SocketPorts S) → PortCall → Recorded (SocketPorts S) → Type 0) (record_failed : Type 0)
+    (port_transition : Recorded (SocketPorts S) → PortCall → Recorded (SocketPorts S) → Type 0) (outside : RecordEvents)
     (head : RecordHead) (settings : Settings) (failed : Type 0) where
-  -- From this state on the sockets of a run evolved by the system calls of a trace with this property, and each session that
-  -- began has its own record. Then the run waited for the sockets that closed.
+  -- From this state on the sockets of a run evolved by the system calls of a trace with this property. Each session that
+  -- began has its own record, and the file of each that was retired has the whole record, or a notice says what is missing.
+  -- Then the run waited for the sockets that closed.
   pub record RunsBy (Kind : List (SystemCall (Recorded (SocketPorts S))) → Type 0) (begun : RunState N S) : Type 0 where
     pub trace : List (SystemCall (Recorded (SocketPorts S)))
     pub ended : RunState N S
     pub last : ClosingList S
     pub evolves : TransitsBy (RunEvolves transition to_give taken calls (λ ports. ports.ports)) begun trace ended
     pub kind : Kind trace
-    pub recorded : TraceRecords record_failed head trace
+    pub recorded : TraceRecords outside head trace
     pub finishes : FinishesAll transition to_give taken calls 18446744073709551615 ended.network ended.table.reading
         ended.closing last
 
@@ -93,11 +93,11 @@ IsBeforeRun records settings (run_faults.Settings fault) = ⊥
 -- The end of a run of settings: it did not begin, and nothing was written; or it ended on the network that was bound.
 abbrev pub SettingsRun : {F N C S : Type 0} → Option F → (N → NetworkCall C → N → Type 0) → (S → Option (List ℕ)) →
     (S → Option (List ℕ)) → (S → Option (List StreamCall)) →
-    (Recorded (SocketPorts S) → PortCall → Recorded (SocketPorts S) → Type 0) → Type 0 → RecordHead → Settings → Type 0 →
+    (Recorded (SocketPorts S) → PortCall → Recorded (SocketPorts S) → Type 0) → RecordEvents → RecordHead → Settings → Type 0 →
     Option (List ℕ) → Option (List ℕ) → Result (Unit {0}) RunFault → Type 0
-SettingsRun {N = N} records transition to_give taken calls port_transition record_failed head settings failed old new result =
+SettingsRun {N = N} records transition to_give taken calls port_transition outside head settings failed old new result =
     ((fault : RunFault) × (result ≡ Err fault) × (new ≡ old) × IsBeforeRun records settings fault)
-    ⊎ ((network : N) × RunEnds transition to_give taken calls port_transition record_failed head settings failed network old
+    ⊎ ((network : N) × RunEnds transition to_give taken calls port_transition outside head settings failed network old
     new result)
 
 -- a fault of a text, which is found before any socket is opened
@@ -115,13 +115,13 @@ abbrev pub IsRefused : List ℕ → SettingsError → Type 0
 IsRefused text fault = fault ≢ settings_faults.Memory → judged_settings (parse_document text) ≡ Err fault
 
 -- The end of a run of a text: it has a fault, and nothing is written; or it has settings, and they run. If there is a folder
--- of records, each session has its own.
+-- of records, each session has its own, or a notice.
 abbrev pub TextRuns : {F N C S : Type 0} → Option F → (N → NetworkCall C → N → Type 0) → (S → Option (List ℕ)) →
     (S → Option (List ℕ)) → (S → Option (List StreamCall)) →
-    (Recorded (SocketPorts S) → PortCall → Recorded (SocketPorts S) → Type 0) → Type 0 → List ℕ → Type 0 →
+    (Recorded (SocketPorts S) → PortCall → Recorded (SocketPorts S) → Type 0) → RecordEvents → List ℕ → Type 0 →
     Option (List ℕ) → Option (List ℕ) → Result (Unit {0}) RunFault → Type 0
-TextRuns records transition to_give taken calls port_transition record_failed text failed old new result =
+TextRuns records transition to_give taken calls port_transition outside text failed old new result =
     ((fault : SettingsError) × (result ≡ Err (run_faults.Settings fault)) × IsRefused text fault × (new ≡ old))
     ⊎ ((settings : Settings) × Reads text settings
-    × SettingsRun records transition to_give taken calls port_transition record_failed (head_for settings records) settings
+    × SettingsRun records transition to_give taken calls port_transition outside (head_for settings records) settings
     failed old new result)

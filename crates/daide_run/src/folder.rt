@@ -7,10 +7,12 @@ ghost use Rattle.std.specs.Prelude.{◌≡◌, ◌⊎◌, ◌+◌, Some, IfOk, I
 ghost use Rattle.std.specs.Net.Text.{socket_text};
 ghost use Rattle.daide_log.specs.Recording.{HasFailed, no_record};
 ghost use Rattle.daide_words.specs.Words.{words_of};
-ghost use Rattle.daide_run.specs.Folder.{path_in, IsNoFileOf, IsAddressOf, BeginsRecord, Starts, time_begun};
+ghost use Rattle.daide_run.specs.Folder.{BeginsRecord, IsAddressOf, IsWritten, Starts, path_in, record_events, time_begun};
+ghost use Rattle.daide_run.specs.Notices.{HasNoFile, IsNoFileOf, ReportsEnd};
 
+use crate::notices::{NoticeLog, RecordNotice};
 use daide_io::Ports;
-use daide_log::record::{MOST_LINES, Page};
+use daide_log::record::Page;
 use daide_log::{Activity, Comment, Moment, Record, RecordEnd, Recording, Sink};
 use daide_protocol::Config;
 use daide_settings::Settings;
@@ -21,29 +23,10 @@ use std::io::{ErrorKind, Write};
 use std::net::SocketAddr;
 use std::rt::Files;
 use std::{fs, io};
-use thiserror::Error;
-
-/// Why a session has no complete record, with its number. The session goes on.
-#[derive(Clone, Copy, Debug, Error)]
-pub enum RecordNotice {
-    /// A file with its name exists already, and is not overwritten.
-    #[error("session {0} is not recorded: its file is there already")]
-    IsThere(u32),
-    /// Its file could not be created, with the system's error.
-    #[error("session {0} is not recorded: its file could not be made ({1})")]
-    Unmade(u32, ErrorKind),
-    /// Its file accepted no more bytes, with the system's error, for example because the disk is full.
-    #[error("record of session {0} broke off: it could not be written ({1})")]
-    Unwritten(u32, ErrorKind),
-    /// It has as many lines as a log may have.
-    #[error("record of session {0} broke off: it has {lines} lines", lines = MOST_LINES)]
-    Full(u32),
-}
 
 /// The file of a session's record. Its contents are those of the file.
 #[derive(Drop)]
 pub struct SessionFile<F: Drop> {
-    number: u32,
     file: F,
     /// The kind of the error of the last write that failed.
     cause: ErrorKind,
@@ -69,11 +52,6 @@ impl<F: Write + Drop> Write for SessionFile<F> {
     fn flush(&mut self) -> io::Result<()> {
         self.file.flush()
     }
-}
-
-/// Reports a notice on standard error. The run goes on if the line cannot be written.
-fn log_notice<E: Write>(errors: &mut E, notice: RecordNotice) {
-    let _ = writeln!(errors, "daide-gate: {notice}");
 }
 
 /// A folder, with the configuration and the words that head each record in it.
@@ -251,7 +229,6 @@ impl<'a, R: AllocGlobal + Files> Folder<'a, R> {
             return Err(RecordNotice::Unmade(number, ErrorKind::OutOfMemory));
         };
         let file = SessionFile {
-            number,
             file: self.file_of(number)?,
             cause: ErrorKind::Other,
         };
@@ -263,7 +240,7 @@ impl<'a, R: AllocGlobal + Files> Folder<'a, R> {
 
     /// Returns ports whose calls are recorded in the record of a session with this number and with a bot at this address
     /// (`start`). If it can't be started, that is reported, and the ports have no record.
-    pub(crate) fn begin<P: Ports, E: Write>(
+    pub(crate) fn begin<P: Ports, E: NoticeLog>(
         &self,
         session: (u32, Option<SocketAddr>),
         ports: P,
@@ -271,7 +248,7 @@ impl<'a, R: AllocGlobal + Files> Folder<'a, R> {
         errors: &mut E,
     ) -> Recording<P, SessionFile<R::File>>
         ensures ports { result.ports ≡ ports }
-        ensures record { (result.record_of ≡ no_record)
+        ensures record { ((result.record_of ≡ no_record) × HasNoFile E.Reported session.0)
             ⊎ Starts (HasFailed ⟦<SessionFile<R::File> as Sink>⟧.Fails) self.now.config (words_of self.now.words) session now
             result.record_of result.last }
         ensures activity { result.activity ≡ Activity.Moving }
@@ -279,51 +256,43 @@ impl<'a, R: AllocGlobal + Files> Folder<'a, R> {
         match self.start(session, now) {
             Ok((log, began)) => Recording::new(ports, Some(log), began),
             Err(notice) => {
-                log_notice(errors, notice);
+                errors.log_notice(notice);
                 Recording::new(ports, None, None)
             }
         }
     }
 }
 
-/// Reports why the record in a file is not whole, if it is not.
-fn log_end<F: Drop, E: Write>(file: &SessionFile<F>, end: RecordEnd, errors: &mut E) {
+/// Reports why the record of the session with this number is not whole in its file, if it is not.
+pub(crate) fn log_end<F: Drop, E: NoticeLog>(
+    number: u32,
+    file: &SessionFile<F>,
+    end: RecordEnd,
+    errors: &mut E,
+)
+    ensures { ReportsEnd E.Reported number end }
+{
     match end {
         RecordEnd::Whole => {}
-        RecordEnd::Failed => log_notice(errors, RecordNotice::Unwritten(file.number, file.cause)),
-        RecordEnd::Full => log_notice(errors, RecordNotice::Full(file.number)),
+        RecordEnd::Failed => errors.log_notice(RecordNotice::Unwritten(number, file.cause)),
+        RecordEnd::Full => errors.log_notice(RecordNotice::Full(number)),
     }
 }
 
-/// Reports that a session's record broke off, if it did, once.
-pub(crate) fn log_if_ended<P: Ports, F: Write + Drop, E: Write>(
-    recorded: &Recording<P, SessionFile<F>>,
+/// Writes the rest of a record to its file, unless that failed before. Reports why it can't be written.
+pub(crate) fn finish<F: Write + Drop, E: NoticeLog>(
+    number: u32,
+    log: Record<SessionFile<F>>,
     errors: &mut E,
-) {
-    let Some(record) = recorded.record() else {
-        return;
-    };
-    if recorded.has_unreported_end() {
-        log_end(record.writer(), record.ending(), errors);
-        recorded.note_reported();
-    }
-}
-
-/// Ends a session's record, if there is one. Reports why it is not whole, if that was not reported before. Returns the
-/// ports.
-pub(crate) fn end<P: Ports, F: Write + Drop, E: Write>(
-    recorded: Recording<P, SessionFile<F>>,
-    errors: &mut E,
-) -> P
-    ensures { result ≡ recorded.ports }
+)
+    ensures { IsWritten (record_events ⟦<SessionFile<F> as Write>⟧.contents ⟦<SessionFile<F> as Sink>⟧.Fails
+        E.Reported) number log }
 {
-    let (ports, record) = recorded.into_parts();
-    if let Some(record) = record {
-        let before = record.ending();
-        let (file, end) = record.finish();
-        if end != before {
-            log_end(&file, end, errors);
-        }
+    if log.ending() == RecordEnd::Failed {
+        return;
     }
-    ports
+    let (file, end) = log.finish();
+    if end == RecordEnd::Failed {
+        errors.log_notice(RecordNotice::Unwritten(number, file.cause));
+    }
 }

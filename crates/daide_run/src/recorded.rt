@@ -2,12 +2,14 @@
 //! each session record their calls if it has a record.
 
 ghost use Rattle.std.specs.Prelude.{◌≡◌};
-ghost use Rattle.daide_log.specs.Recording.{HasFailed};
 ghost use Rattle.daide_sockets.specs.Finishing.{FinishesAll};
 ghost use Rattle.daide_sockets.specs.Scheduling.{RunEvolves, run_state};
-ghost use Rattle.daide_run.specs.Folder.{CallRecords, folder_head};
+ghost use Rattle.daide_run.specs.Folder.{CallRecords, folder_head, record_events};
 
-use crate::folder::{Folder, SessionFile, end, log_if_ended};
+use crate::broken_records::BrokenRecords;
+use crate::folder::{Folder, SessionFile};
+use crate::notices::NoticeLog;
+use daide_io::duplex::Duplex;
 use daide_io::{Connect, Network, Notice, Orders, ReadyQueue, SessionEnd, SessionStatus, System};
 use daide_log::{Moment, Recording, Sink};
 use daide_sockets::ports::SocketPorts;
@@ -24,6 +26,13 @@ fn moment_by<C: Clock>(clock: &C) -> Option<Moment> {
     Moment::from_millisecond(u64::try_from(since.as_millis()).ok()?)
 }
 
+/// Returns the number of the session with these ports.
+fn number_of<S: Duplex + Drop, W: Sink + Drop>(ports: &Recording<SocketPorts<'_, S>, W>) -> u32
+    ensures { result ≡ ports.now.ports.identity.number }
+{
+    ports.ports().identity().number
+}
+
 /// The sockets of a run, the folder of its records, if sessions are recorded, and the clock that gives their times.
 ///
 /// Not said: that the times of a record are readings of this clock. A scene of tests/records.py compares them.
@@ -35,24 +44,26 @@ pub(crate) struct RecordedSockets<
     N: Network,
     R: AllocGlobal + Files,
     C: Clock,
-    E: Write + Drop,
+    E: NoticeLog + Sink + Drop,
 > {
     sockets: &'s mut Sockets<'w, N, E>,
     folder: Option<&'f Folder<'f, R>>,
     clock: &'f C,
     /// When the round began; `None` without a folder, since only records have times.
     now: Option<Moment>,
+    /// The records that broke off and were reported.
+    broken: BrokenRecords<E>,
 }
 
-impl<'s, 'w, 'f, N: Network, R: AllocGlobal + Files, C: Clock, E: Write + Drop> RecordedSockets<
+impl<
     's,
     'w,
     'f,
-    N,
-    R,
-    C,
-    E,
-> {
+    N: Network,
+    R: AllocGlobal + Files,
+    C: Clock,
+    E: NoticeLog + Sink + Drop,
+> RecordedSockets<'s, 'w, 'f, N, R, C, E> {
     /// Makes a system over these sockets. A folder has a record of each session, if there is a folder.
     pub fn new(
         sockets: &'s mut Sockets<'w, N, E>,
@@ -67,6 +78,7 @@ impl<'s, 'w, 'f, N: Network, R: AllocGlobal + Files, C: Clock, E: Write + Drop> 
             folder,
             clock,
             now: None,
+            broken: BrokenRecords::none(),
         }
     }
 
@@ -86,7 +98,7 @@ impl<'s, 'w, 'f, N: Network, R: AllocGlobal + Files, C: Clock, E: Write + Drop> 
     }
 }
 
-impl<'w, N: Network, R: AllocGlobal + Files, C: Clock, E: Write + Drop> System<
+impl<'w, N: Network, R: AllocGlobal + Files, C: Clock, E: NoticeLog + Sink + Drop> System<
     Recording<SocketPorts<'w, N::Connection>, SessionFile<R::File>>,
 > for RecordedSockets<'_, 'w, '_, N, R, C, E> {
     ghost transition = { λ old call new. RunEvolves N.transition N.Connection.to_give N.Connection.taken
@@ -95,7 +107,8 @@ impl<'w, N: Network, R: AllocGlobal + Files, C: Clock, E: Write + Drop> System<
         old.sockets.now.acceptor old.sockets.now.arrivals.items old.sockets.now.closings) call
         (run_state (new.sockets.now.poller.network, new.sockets.now.poller.table) (new.sockets.now.idle_time, new.sockets.now.stall_time)
         new.sockets.now.acceptor new.sockets.now.arrivals.items new.sockets.now.closings)
-        × CallRecords (HasFailed ⟦<SessionFile<R::File> as Sink>⟧.Fails) (folder_head old.folder) call
+        × CallRecords (record_events ⟦<SessionFile<R::File> as Write>⟧.contents ⟦<SessionFile<R::File> as Sink>⟧.Fails
+        E.Reported) (folder_head old.folder) call
         × (new.folder ≡ old.folder) };
 
     /// The times that are recorded until the next poll are that of this one.
@@ -118,7 +131,8 @@ impl<'w, N: Network, R: AllocGlobal + Files, C: Clock, E: Write + Drop> System<
         place: usize,
         ports: &mut Recording<SocketPorts<'w, N::Connection>, SessionFile<R::File>>,
     ) {
-        log_if_ended(ports, &mut self.sockets.errors);
+        let session = (place, number_of(ports));
+        self.broken.report(session, ports, &mut self.sockets.errors);
         ports.begin_turn(place, self.sockets, self.now);
     }
 
@@ -128,7 +142,8 @@ impl<'w, N: Network, R: AllocGlobal + Files, C: Clock, E: Write + Drop> System<
         place: usize,
         ports: &Recording<SocketPorts<'w, N::Connection>, SessionFile<R::File>>,
     ) -> bool {
-        log_if_ended(ports, &mut self.sockets.errors);
+        let number = number_of(ports);
+        self.broken.report((place, number), ports, &mut self.sockets.errors);
         self.sockets.rest(place, ports.ports())
     }
 
@@ -161,8 +176,8 @@ impl<'w, N: Network, R: AllocGlobal + Files, C: Clock, E: Write + Drop> System<
         ports: Recording<SocketPorts<'w, N::Connection>, SessionFile<R::File>>,
         end_of: SessionEnd,
     ) {
-        log_if_ended(&ports, &mut self.sockets.errors);
-        let ports = end(ports, &mut self.sockets.errors);
+        let session = (place, number_of(&ports));
+        let ports = self.broken.close(session, ports, &mut self.sockets.errors);
         self.sockets.retire(place, ports, end_of);
     }
 

@@ -2,13 +2,15 @@
 
 ghost use Rattle.std.specs.Prelude.{◌≡◌, [], None, IfErr};
 ghost use Rattle.daide_log.specs.Recording.{HasFailed};
-ghost use Rattle.daide_run.specs.Folder.{head_for, folder_head};
+ghost use Rattle.daide_run.specs.Folder.{head_for, folder_head, record_events};
+ghost use Rattle.daide_run.specs.Notices.{WasReported};
 ghost use Rattle.daide_run.specs.Running.{RunEnds, Serves, SettingsRun, TextRuns, IsOfText, ending_by};
 ghost use Rattle.daide_sockets.specs.Rows.{AreRowsOf};
 ghost use Rattle.daide_sockets.specs.Scheduling.{run_state};
 
 use crate::folder::{Folder, SessionFile};
 use crate::gateway::{GatewayFault, bind, log_beginning, serve_on};
+use crate::notices::NoticeLog;
 use crate::recorded::RecordedSockets;
 use daide_buffered_io::pool::Pool;
 use daide_event_loop::ServeFault;
@@ -80,7 +82,7 @@ fn serve_opened<
     R: AllocGlobal + Clock,
     F: AllocGlobal + Files,
     O: Sink,
-    E: Write + Drop,
+    E: NoticeLog + Sink + Drop,
 >(
     rt: &R,
     settings: &Settings,
@@ -90,7 +92,8 @@ fn serve_opened<
 ) -> Result<(), ServeFault>
     ensures { Serves N.transition N.Connection.to_give N.Connection.taken N.Connection.calls
         ⟦<Recording<SocketPorts<'static, N::Connection>, SessionFile<F::File>> as Ports>⟧.transition
-        (HasFailed ⟦<SessionFile<F::File> as Sink>⟧.Fails) (folder_head folder.entry) settings.now
+        (record_events ⟦<SessionFile<F::File> as Write>⟧.contents ⟦<SessionFile<F::File> as Sink>⟧.Fails E.Reported)
+        (folder_head folder.entry) settings.now
         (HasFailed O.Fails) (O.contents output.old) (O.contents output.new)
         (run_state (sockets.old.poller.network, sockets.old.poller.table) (sockets.old.idle_time, sockets.old.stall_time)
         sockets.old.acceptor sockets.old.arrivals.items sockets.old.closings) result }
@@ -109,17 +112,22 @@ fn serve_opened<
 /// wrote that it listens. Then the sockets evolved by the calls of a whole run of these settings, or, for a fault of
 /// serving, by those of a run that was given up for it. At last it waited for the sockets that close. So
 /// `sessions_come_once` and `bots_are_counted` hold of these calls. With a folder the ports with which a session begins
-/// have the record of the session's number and its bot's address, or none (`HasOwnRecord`); without a folder they have none.
+/// have the record of the session's number and its bot's address, or none, and a notice of that number was written, unless
+/// that write failed (`HasOwnRecord`); without a folder they have none. If the record of a session broke off, a notice of
+/// its number says so by the time that the next turn of the session begins, or that it is to rest or is retired
+/// (`EndIsReported`). When a session is retired whose record has not failed, its file has the whole text, or a notice says
+/// that it could not be written (`ClosesRecord`).
 ///
-/// Not said: the value of the network at the end, since it is dropped; that a record which could not be started is reported;
-/// and that the last page of a record is written when its session is retired. Tests of records show both.
+/// Not said: the value of the network at the end, since it is dropped; that a record that broke off is reported only once,
+/// which tests of records show; that a file has the whole text before the line with the end of its session is written,
+/// since no clause orders the writes to two streams.
 pub(crate) fn run_on<
     'w,
     N: Network,
     R: AllocGlobal + Clock,
     F: AllocGlobal + Files,
     O: Sink,
-    E: Write + Drop,
+    E: NoticeLog + Sink + Drop,
 >(
     rt: &R,
     settings: &'w Settings,
@@ -131,8 +139,9 @@ pub(crate) fn run_on<
     requires { AreRowsOf resources.2 [] }
     ensures runs { RunEnds N.transition N.Connection.to_give N.Connection.taken N.Connection.calls
         ⟦<Recording<SocketPorts<'static, N::Connection>, SessionFile<F::File>> as Ports>⟧.transition
-        (HasFailed ⟦<SessionFile<F::File> as Sink>⟧.Fails) (folder_head reports.entry.folder) settings.now
-        (HasFailed O.Fails) resources.entry.0 (O.contents output.old) (O.contents output.new) result }
+        (record_events ⟦<SessionFile<F::File> as Write>⟧.contents ⟦<SessionFile<F::File> as Sink>⟧.Fails E.Reported)
+        (folder_head reports.entry.folder) settings.now (HasFailed O.Fails) resources.entry.0 (O.contents output.old)
+        (O.contents output.new) result }
 {
     let Some(mut sockets) = sockets_on(rt.alloc(), settings, resources, errors) else {
         return Err(RunFault::Memory);
@@ -149,7 +158,7 @@ fn serve_sockets<
     R: AllocGlobal + Files + Clock + Net,
     F: AllocGlobal + Files,
     O: Sink,
-    E: Write,
+    E: Sink,
 >(
     rt: &'r R,
     settings: &Settings,
@@ -160,10 +169,14 @@ fn serve_sockets<
     ensures { SettingsRun {F = Unit {0}} None ⟦<OsNetwork<'r, R> as Network>⟧.transition ⟦<Connection as Duplex>⟧.to_give
         ⟦<Connection as Duplex>⟧.taken ⟦<Connection as Duplex>⟧.calls
         ⟦<Recording<SocketPorts<'static, Connection>, SessionFile<F::File>> as Ports>⟧.transition
-        (HasFailed ⟦<SessionFile<F::File> as Sink>⟧.Fails) (folder_head reports.entry.folder) settings.now
+        (record_events ⟦<SessionFile<F::File> as Write>⟧.contents ⟦<SessionFile<F::File> as Sink>⟧.Fails
+        (WasReported E.contents E.Fails)) (folder_head reports.entry.folder) settings.now
         (HasFailed O.Fails) (O.contents output.old) (O.contents output.new) result }
 {
-    let bound = bind(rt, settings).map_err(RunFault::Gateway)?;
+    let bound = match bind(rt, settings) {
+        Ok(bound) => bound,
+        Err(fault) => return Err(RunFault::Gateway(fault)),
+    };
     let _file = control_file(rt, settings);
     let BoundSockets {
         network,
@@ -179,7 +192,7 @@ fn serve_sockets<
 
 /// Serves with settings. If there is the path of a folder, a record of each session is kept there. `is_verbose`: whether
 /// the beginning and the end of each session are logged.
-fn serve_reported<'r, R: AllocGlobal + Files + Clock + Net, O: Sink, E: Write>(
+fn serve_reported<'r, R: AllocGlobal + Files + Clock + Net, O: Sink, E: Sink>(
     rt: &'r R,
     settings: &Settings,
     records: Option<&'r str>,
@@ -190,8 +203,9 @@ fn serve_reported<'r, R: AllocGlobal + Files + Clock + Net, O: Sink, E: Write>(
     ensures { SettingsRun records.entry ⟦<OsNetwork<'r, R> as Network>⟧.transition ⟦<Connection as Duplex>⟧.to_give
         ⟦<Connection as Duplex>⟧.taken ⟦<Connection as Duplex>⟧.calls
         ⟦<Recording<SocketPorts<'static, Connection>, SessionFile<R::File>> as Ports>⟧.transition
-        (HasFailed ⟦<SessionFile<R::File> as Sink>⟧.Fails) (head_for settings.now records.entry) settings.now
-        (HasFailed O.Fails) (O.contents output.old) (O.contents output.new) result }
+        (record_events ⟦<SessionFile<R::File> as Write>⟧.contents ⟦<SessionFile<R::File> as Sink>⟧.Fails
+        (WasReported E.contents E.Fails)) (head_for settings.now records.entry) settings.now (HasFailed O.Fails)
+        (O.contents output.old) (O.contents output.new) result }
 {
     let Some(path) = records else {
         let reports = SessionReports::<R> {
@@ -218,7 +232,8 @@ fn serve_reported<'r, R: AllocGlobal + Files + Clock + Net, O: Sink, E: Write>(
 ///
 /// `runs`: the text has a fault, or the run does not begin, for a cause before it serves: then nothing is written. It
 /// returns `Record` only with a folder, if no file can be made in it. Otherwise it ended as `run_on` says, on some value of
-/// the network.
+/// the network. With a folder each session has its own record, or a notice of its number was written to standard error,
+/// unless that write failed.
 ///
 /// `untouched`: if the text gives no settings, it returns their fault, and output and standard error are unchanged.
 ///
@@ -226,7 +241,7 @@ fn serve_reported<'r, R: AllocGlobal + Files + Clock + Net, O: Sink, E: Write>(
 /// since a call of the operating system has no relation. Three causes depend on the operating system: that a name is
 /// unknown if `Name` is returned, which it never is for addresses in digits, that the address can't be listened on if
 /// `Listen` is, and that memory was refused if `Memory` is.
-pub fn run_text<'r, R: AllocGlobal + Files + Clock + Net, O: Sink, E: Write>(
+pub fn run_text<'r, R: AllocGlobal + Files + Clock + Net, O: Sink, E: Sink>(
     rt: &'r R,
     text: &str,
     records: Option<&'r str>,
@@ -237,8 +252,9 @@ pub fn run_text<'r, R: AllocGlobal + Files + Clock + Net, O: Sink, E: Write>(
     ensures runs { TextRuns records.entry ⟦<OsNetwork<'r, R> as Network>⟧.transition ⟦<Connection as Duplex>⟧.to_give
         ⟦<Connection as Duplex>⟧.taken ⟦<Connection as Duplex>⟧.calls
         ⟦<Recording<SocketPorts<'static, Connection>, SessionFile<R::File>> as Ports>⟧.transition
-        (HasFailed ⟦<SessionFile<R::File> as Sink>⟧.Fails) text.now
-        (HasFailed O.Fails) (O.contents output.old) (O.contents output.new) result }
+        (record_events ⟦<SessionFile<R::File> as Write>⟧.contents ⟦<SessionFile<R::File> as Sink>⟧.Fails
+        (WasReported E.contents E.Fails)) text.now (HasFailed O.Fails) (O.contents output.old) (O.contents output.new)
+        result }
     ensures untouched { IfErr result (λ fault. IsOfText fault →
         (output.new ≡ output.old) × (errors.new ≡ errors.old)) }
 {
