@@ -3,6 +3,8 @@
 ghost use Rattle.std.specs.Prelude.{◌≡◌, ◌≤◌, IfOk, map};
 ghost use Rattle.clap.specs.Values.{kind_of};
 ghost use Rattle.daide_causes.specs.Causes.{HasFailed, WasRefused};
+ghost use Rattle.daide_run.specs.Folder.{record_events};
+ghost use Rattle.daide_run.specs.Notices.{WasReported};
 ghost use Rattle.daide_run.specs.Running.{TextRuns};
 ghost use Rattle.daide_tools.specs.Endings.{AreSettingsRefused};
 ghost use Rattle.daide_commands.specs.Answers.{CommandEnds, OrderEnds, UsageEnds};
@@ -61,7 +63,7 @@ fn report_usage<S: AsStr, O: Write, E: Write>(
 }
 
 /// Carries out an order. Returns the status.
-fn carry_out<R: AllocGlobal + FileOpener + Clock + Net, I: Source, O: Sink, E: Write>(
+fn carry_out<R: AllocGlobal + FileOpener + Clock + Net, I: Source, O: Sink, E: Sink>(
     rt: &R,
     order: Order<'_, '_>,
     input: &mut I,
@@ -73,7 +75,8 @@ fn carry_out<R: AllocGlobal + FileOpener + Clock + Net, I: Source, O: Sink, E: W
         (λ records text. TextRuns records ⟦<OsNetwork<'static, R> as Network>⟧.transition
         ⟦<Connection as Duplex>⟧.to_give ⟦<Connection as Duplex>⟧.taken ⟦<Connection as Duplex>⟧.calls
         ⟦<Recording<SocketPorts<'static, Connection>, SessionFile<R::File>> as Ports>⟧.transition
-        (HasFailed ⟦<SessionFile<R::File> as Sink>⟧.Fails) text (HasFailed O.Fails))
+        (record_events ⟦<SessionFile<R::File> as Write>⟧.contents ⟦<SessionFile<R::File> as Sink>⟧.Fails
+        (WasReported E.contents E.Fails)) text (HasFailed O.Fails))
         (HasFailed I.Fails) (WasRefused ⟦<Global as Memory>⟧.Refuses)
         (AreSettingsRefused ⟦<Global as Memory>⟧.Refuses ⟦<Global as SettingsMemory>⟧.Refuses) (HasFailed O.Fails)
         order.entry (I.remaining input.old) (I.remaining input.new) (O.contents output.old) (O.contents output.new)) }
@@ -123,17 +126,17 @@ fn carry_out<R: AllocGlobal + FileOpener + Clock + Net, I: Source, O: Sink, E: W
 /// `answered`: what the program does, its status and its output are those of the order that the words give
 /// (`OrderEnds`). For `show`, `check` and `frame` the order says what they write of standard input, for `check FILE` and
 /// `settings FILE` what they write of the file that was opened by that name. `run` runs the text of the file that was opened
-/// by its name, with the folder of `--record` (`run_text`), and `status` returns 0 only if it printed an answer. A failed
-/// write ends `show`, `frame` and `settings` only if a write failed, and a failed read of standard input `show` and `frame`
-/// only if a read failed. Words that are not understood return 2 and write nothing to the output. Help and version return 0
-/// or 1, and refused memory returns 1 (`UsageEnds`).
+/// by its name, with the folder of `--record`, where each session has its record, or standard error a notice (`run_text`).
+/// `status` returns 0 only if it printed an answer. A failed write ends `show`, `frame` and `settings` only if a write
+/// failed, and a failed read of standard input `show` and `frame` only if a read failed. Words that are not understood
+/// return 2 and write nothing to the output. Help and version return 0 or 1, and refused memory returns 1 (`UsageEnds`).
 ///
 /// Premise: no word begins with a hyphen and a digit. With such a word `frame` takes negative numbers, and `clap`'s
 /// contracts say nothing of that; then the program ends as some order does.
 ///
 /// Not said: the texts of help, usage and faults; that memory was refused, which `run_show`, `run_frame` and
 /// `run_settings` say of any memory.
-pub fn answer<R: AllocGlobal + FileOpener + Clock + Net, S: AsStr, I: Source, O: Sink, E: Write>(
+pub fn answer<R: AllocGlobal + FileOpener + Clock + Net, S: AsStr, I: Source, O: Sink, E: Sink>(
     rt: &R,
     words: &[S],
     input: &mut I,
@@ -145,7 +148,8 @@ pub fn answer<R: AllocGlobal + FileOpener + Clock + Net, S: AsStr, I: Source, O:
         (λ records text. TextRuns records ⟦<OsNetwork<'static, R> as Network>⟧.transition
         ⟦<Connection as Duplex>⟧.to_give ⟦<Connection as Duplex>⟧.taken ⟦<Connection as Duplex>⟧.calls
         ⟦<Recording<SocketPorts<'static, Connection>, SessionFile<R::File>> as Ports>⟧.transition
-        (HasFailed ⟦<SessionFile<R::File> as Sink>⟧.Fails) text (HasFailed O.Fails))
+        (record_events ⟦<SessionFile<R::File> as Write>⟧.contents ⟦<SessionFile<R::File> as Sink>⟧.Fails
+        (WasReported E.contents E.Fails)) text (HasFailed O.Fails))
         (HasFailed I.Fails) (WasRefused ⟦<Global as Memory>⟧.Refuses)
         (AreSettingsRefused ⟦<Global as Memory>⟧.Refuses ⟦<Global as SettingsMemory>⟧.Refuses) (HasFailed O.Fails)
         (map S.text words.now) (I.remaining input.old) (I.remaining input.new) (O.contents output.old)

@@ -2,6 +2,8 @@
 
 ghost use Rattle.std.specs.Prelude.{◌≡◌, ◌≤◌, IfOk};
 ghost use Rattle.daide_causes.specs.Causes.{HasFailed};
+ghost use Rattle.daide_run.specs.Folder.{record_events};
+ghost use Rattle.daide_run.specs.Notices.{WasReported};
 ghost use Rattle.daide_run.specs.Running.{TextRuns};
 ghost use Rattle.daide_commands.specs.Answers.{RunOrderEnds};
 
@@ -26,7 +28,7 @@ use std::rt::Clock;
 
 /// Reads the settings of a file, binds the address, prints `listening`, and serves until all bots were served, with the
 /// folder of the order (`run_text`). Returns the status. Fails only if a fault could not be reported.
-pub(crate) fn run<R: AllocGlobal + FileOpener + Clock + Net, O: Sink, E: Write>(
+pub(crate) fn run<R: AllocGlobal + FileOpener + Clock + Net, O: Sink, E: Sink>(
     rt: &R,
     order: RunOrder<'_>,
     output: &mut O,
@@ -37,7 +39,8 @@ pub(crate) fn run<R: AllocGlobal + FileOpener + Clock + Net, O: Sink, E: Write>(
         (λ records text. TextRuns records ⟦<OsNetwork<'static, R> as Network>⟧.transition
         ⟦<Connection as Duplex>⟧.to_give ⟦<Connection as Duplex>⟧.taken ⟦<Connection as Duplex>⟧.calls
         ⟦<Recording<SocketPorts<'static, Connection>, SessionFile<R::File>> as Ports>⟧.transition
-        (HasFailed ⟦<SessionFile<R::File> as Sink>⟧.Fails) text (HasFailed O.Fails))
+        (record_events ⟦<SessionFile<R::File> as Write>⟧.contents ⟦<SessionFile<R::File> as Sink>⟧.Fails
+        (WasReported E.contents E.Fails)) text (HasFailed O.Fails))
         order.entry (O.contents output.old) (O.contents output.new)) }
 {
     let text = match text_at(rt, order.settings) {

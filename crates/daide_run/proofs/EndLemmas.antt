@@ -18,11 +18,6 @@ module _ (Reported : RecordNotice → Type 0) where
       subst (λ (p : List (Option (ℕ × RecordEnd))). AreReported Reported p) (sym e)
       (λ place end is. none_there count place end is)
 
-  -- an end that is known at a place was reported
-  pub known_reported : (places : List (Option (ℕ × RecordEnd))) (place : ℕ) (end : ℕ × RecordEnd) →
-      AreReported Reported places → slice_get places place ≡ Some (Some end) → ReportsEnd Reported end.0 end.1
-  known_reported places place end all is = all place end is
-
   -- each is, once a reported one is put at a place
   one_put : (end one : ℕ × RecordEnd) (old : List (Option (ℕ × RecordEnd))) (place : ℕ) → AreReported Reported old →
       ReportsEnd Reported end.0 end.1 → (slice_get old place ≡ Some (Some one)) ⊎ (one ≡ end) →

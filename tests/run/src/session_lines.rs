@@ -219,13 +219,13 @@ fn capacity_is_logged_once(_rt: HostRuntime) -> Result<(), Fail> {
     Ok(())
 }
 
-/// A fault of a record | its text.
+/// A notice of a record | its reason.
 #[rattlefmt::skip]
 const RECORDS: &[(RecordNotice, &str)] = &[
-    (RecordNotice::IsThere(1), "session 1 is not recorded: its file is there already"),
-    (RecordNotice::Unmade(2, ErrorKind::PermissionDenied), "session 2 is not recorded: its file could not be made (permission denied)"),
-    (RecordNotice::Unwritten(3, ErrorKind::StorageFull), "record of session 3 broke off: it could not be written (no storage space)"),
-    (RecordNotice::Full(4), "record of session 4 broke off: it has 1000000 lines"),
+    (RecordNotice::IsThere(1), "its file is there already"),
+    (RecordNotice::Unmade(2, ErrorKind::PermissionDenied), "its file could not be made (permission denied)"),
+    (RecordNotice::Unwritten(3, ErrorKind::StorageFull), "it could not be written (no storage space)"),
+    (RecordNotice::Full(4), "it has 1000000 lines"),
 ];
 
 /// Returns whether the fault has this text.
