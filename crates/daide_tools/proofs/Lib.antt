@@ -1,4 +1,5 @@
 mod EndingLemmas
+mod CheckingLemmas
 mod Reading
 mod JudgingLemmas
 mod ControllingLemmas

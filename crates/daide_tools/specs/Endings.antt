@@ -1,6 +1,6 @@
 -- The end of `show`, `check`, `frame` and `settings`: the exit status by the result of their libraries, and the output.
 -- (own)
-use Rattle.std.specs.Prelude.{◌≡◌, ◌≢◌, ◌⊎◌, ⊤, ℕ, ◌==◌, ◌&&◌, Bool, true, false, if◌then◌else◌}
+use Rattle.std.specs.Prelude.{◌≡◌, ◌≢◌, ◌⊎◌, ⊤, ℕ, Bool, true, false}
 use Rattle.std.specs.Prelude.{List, [], ◌∷◌, ◌++◌, map, Option, Some, None, IfSome, option_map, Result, Ok, Err}
 use Rattle.std.specs.Prelude.{IfErr, is_ok}
 use Rattle.std.specs.List.{join_with_byte}
@@ -10,14 +10,6 @@ use Rattle.std.specs.declared.io.ErrorKind.{ErrorKind}
 use Rattle.daide_words.specs.declared.word.Word.{Word}
 use Rattle.daide_words.specs.Word.{names_of}
 use Rattle.daide_token.specs.Names.{Named}
-use Rattle.daide_protocol.specs.declared.summary.Summary.{Summary}
-use Rattle.daide_protocol.specs.Summary.{is_clean}
-use Rattle.daide_log_lines.specs.declared.fault.LogFault.{LogFault}
-use Rattle.daide_log_lines.specs.Reader.{silent}
-use Rattle.daide_log.specs.declared.explained.Explained.{Explained}
-use Rattle.daide_log.specs.Explained.{explained}
-use Rattle.daide_log.specs.Log.{plain}
-use Rattle.daide_log.specs.Progress.{IsAnswered}
 use Rattle.daide_show.specs.Shown.{ShowRequest, Shows}
 use Rattle.daide_show.specs.Shown as shown
 use Rattle.daide_show.specs.declared.frame_view.ShowFault.{ShowFault}
@@ -39,6 +31,7 @@ use Rattle.daide_settings.specs.Settings.{Given, judged_settings}
 use Rattle.daide_tools.specs.declared.judging.SettingsFault.{SettingsFault}
 use Rattle.daide_tools.specs.declared.judging.SettingsFault.TheVariants as settings_faults
 use Rattle.daide_tools.specs.declared.trying.Trials.{Trials}
+use Rattle.daide_tools.specs.Checking.{ChecksLogs, SaysAnything}
 use Rattle.daide_tools.specs.Needs.{needs_text}
 use Rattle.daide_tools.specs.Opened.{IsTextAt, ReadsNamed}
 use Rattle.daide_tools.specs.Trials.{passed_text, trials_status}
@@ -73,33 +66,6 @@ abbrev pub ShowEnds : (ShowFault → Type 0) → ShowRequest → Option (List �
 ShowEnds IsCause asked input old new status =
     (answer : Result Bool ShowFault) × IsShowAnswer asked input old new answer × IfErr answer IsCause
     × (status ≡ show_status answer)
-
--- ---- `check`
-
-abbrev pub check_status : Result Summary LogFault → ℕ
-check_status (Ok counts) = if is_clean counts then 0 else 3
-check_status (Err fault) = 1
-
--- with explanations an incomplete frame is a fault too
-abbrev pub explained_status : Result Explained LogFault → ℕ
-explained_status (Ok report) = if is_clean report.counts && report.unfinished == 0 then 0 else 3
-explained_status (Err fault) = 1
-
--- the status is that of the plain report of this log; `rest` is the unread rest of the log
-abbrev pub CheckEnds : Option (List ℕ) → Option (List ℕ) → Option (List ℕ) → Option (List ℕ) → ℕ → Type 0
-CheckEnds log rest old new status =
-    (answer : Result Summary LogFault) × IsAnswered plain (silent log) (silent rest) old new answer
-    × (status ≡ check_status answer)
-
--- the same for the report with explanations
-abbrev pub ExplainedEnds : Option (List ℕ) → Option (List ℕ) → Option (List ℕ) → Option (List ℕ) → ℕ → Type 0
-ExplainedEnds log rest old new status =
-    (words : List Word) × (answer : Result Explained LogFault)
-    × IsAnswered (explained words) (silent log) (silent rest) old new answer × (status ≡ explained_status answer)
-
-abbrev pub ReportEnds : Bool → Option (List ℕ) → Option (List ℕ) → Option (List ℕ) → Option (List ℕ) → ℕ → Type 0
-ReportEnds false log rest old new status = CheckEnds log rest old new status
-ReportEnds true log rest old new status = ExplainedEnds log rest old new status
 
 -- ---- `frame`
 
@@ -202,19 +168,10 @@ module _ {F : Type 0} (Opens : List ℕ → Result F ErrorKind → Type 0) (rema
       (record { words = words; side = order.side; level = order.level; explained = order.is_explained })
       (given_by (option_map (λ typed. map (λ word. word.now) typed.now) order.typed) known) old new status)
 
-  -- Without a name the log is standard input. A log by its name is reported; if it can't be opened, the status is 1, and
-  -- nothing is written. For several logs nothing is said.
-  abbrev pub ListedEnds : Bool → Option (List (List ℕ)) → Option (List ℕ) → Option (List ℕ) → Option (List ℕ) →
-      Option (List ℕ) → ℕ → Type 0
-  ListedEnds explained None known rest old new status = ReportEnds explained known rest old new status
-  ListedEnds explained (Some []) known rest old new status = ⊤
-  ListedEnds explained (Some (name ∷ [])) known rest old new status = ReadsNamed Opens remaining name
-      (λ log left. ReportEnds explained log left old new status) ((status ≡ 1) × (new ≡ old)) known rest
-  ListedEnds explained (Some (name ∷ other ∷ names)) known rest old new status = ⊤
-
+  -- the logs of the order are reported, whatever is said on standard error
   abbrev pub CheckRuns : CheckOrder → Option (List ℕ) → Option (List ℕ) → Option (List ℕ) → Option (List ℕ) → ℕ → Type 0
-  CheckRuns order known rest old new status = ListedEnds order.is_explained
-      (option_map (λ files. map (λ file. file.now) files.now) order.files) known rest old new status
+  CheckRuns order known rest old new status = ChecksLogs Opens remaining order.is_explained SaysAnything
+      (option_map (λ files. map (λ file. file.now) files.now) order.files) known rest old new None None status
 
   -- as for `show`
   abbrev pub FrameRuns : Type 0 → Type 0 → Type 0 → FrameOrder → Option (List ℕ) → Option (List ℕ) → Option (List ℕ) → ℕ →

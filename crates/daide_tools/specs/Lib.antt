@@ -1,4 +1,5 @@
 pub mod Controlling
+pub mod Checking
 pub mod Endings
 pub mod Needs
 pub mod Opened

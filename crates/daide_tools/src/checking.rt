@@ -1,99 +1,91 @@
 //! `check`: the report of a log, from a file or from standard input.
 
-ghost use Rattle.std.specs.Prelude.{◌≡◌, ◌≤◌, IfOk};
-ghost use Rattle.daide_tools.specs.Endings.{check_status, explained_status, CheckRuns, ReportEnds};
-ghost use Rattle.daide_tools.specs.Opened.{ReadsNamed};
+ghost use Rattle.std.specs.Prelude.{◌≡◌, ◌≤◌, map, option_map, IfOk, IfErr};
+ghost use Rattle.daide_causes.specs.Causes.{HasFailed};
+ghost use Rattle.daide_tools.specs.Checking.{ChecksLogs, ChecksNamed, ChecksNames, ChecksRead, IsCheckCause, ReportsLog, SaysOfNamed, check_result, counts_status, explained_result};
+ghost use Rattle.daide_tools.specs.Endings.{CheckRuns};
 
-use crate::faults::{CLEAN, FAULT, NOT_RELAYED, print_fault};
+use crate::faults::{CLEAN, FAULT, NOT_RELAYED, RefusedLog, print_log_fault};
 use crate::opening::FileOpener;
 use crate::several::check_several;
+use daide_causes::{Sink, Source};
 use daide_command_line::arguments::CheckOrder;
 use daide_log::{Explained, LineReason, LogFault, check_stream, explain_stream};
 use daide_protocol::Summary;
-use std::alloc::Allocator;
-use std::fmt::Display;
+use std::alloc::Global;
 use std::io;
-use std::io::{Read, Write};
 
-/// Reports what is wrong with a line that is not a log line, after the name of its log, if any. A failure to write it has
-/// no effect.
-pub(crate) fn print_reason<N: Display + Drop, E: Write>(
-    fault: LogFault,
-    refused: Option<LineReason>,
-    name: N,
-    errors: &mut E,
-) {
-    if let (LogFault::BadLine(_), Some(reason)) = (fault, refused) {
-        let _ = writeln!(errors, "daide-gate: {name}{reason}");
-    }
-}
-
-/// Reports a fault of a log on standard error, and what is wrong with a line that is not a log line. Returns the status.
-fn print_log_fault<E: Write>(
-    fault: LogFault,
-    refused: Option<LineReason>,
-    errors: &mut E,
-) -> io::Result<u8>
-    ensures { IfOk result (λ status. status ≡ 1) }
+/// Returns the status of a log by whether nothing in it was refused.
+pub(crate) fn counts_status(is_clean: bool) -> u8
+    ensures status { result ≡ counts_status is_clean }
+    ensures bounded { result ≤ NOT_RELAYED }
 {
-    let status = print_fault(errors, fault, FAULT)?;
-    print_reason(fault, refused, "", errors);
-    Ok(status)
+    if is_clean { CLEAN } else { NOT_RELAYED }
 }
 
-/// Reports the fault of a log, if it has one. Returns the status.
-fn end_check<E: Write>(
-    answer: Result<Summary, LogFault>,
-    refused: Option<LineReason>,
-    errors: &mut E,
-) -> io::Result<u8>
-    ensures { IfOk result (λ status. status ≡ check_status answer) }
+/// Returns the status of a report, or its fault.
+pub(crate) fn check_result(answer: Result<Summary, LogFault>) -> Result<u8, LogFault>
+    ensures status { result ≡ check_result answer }
+    ensures bounded { IfOk result (λ status. status ≤ NOT_RELAYED) }
 {
     match answer {
-        Ok(counts) if counts.is_clean() => Ok(CLEAN),
-        Ok(_counts) => Ok(NOT_RELAYED),
-        Err(fault) => print_log_fault(fault, refused, errors),
+        Ok(counts) => Ok(counts_status(counts.is_clean())),
+        Err(fault) => Err(fault),
     }
 }
 
 /// Does the same for a report with explanations, in which an incomplete frame is a fault too.
-fn end_explained<E: Write>(
-    answer: Result<Explained, LogFault>,
-    refused: Option<LineReason>,
-    errors: &mut E,
-) -> io::Result<u8>
-    ensures { IfOk result (λ status. status ≡ explained_status answer) }
+pub(crate) fn explained_result(answer: Result<Explained, LogFault>) -> Result<u8, LogFault>
+    ensures status { result ≡ explained_result answer }
+    ensures bounded { IfOk result (λ status. status ≤ NOT_RELAYED) }
 {
     match answer {
-        Ok(report) if report.counts.is_clean() && report.unfinished == 0 => Ok(CLEAN),
-        Ok(_report) => Ok(NOT_RELAYED),
-        Err(fault) => print_log_fault(fault, refused, errors),
+        Ok(report) => Ok(counts_status(report.counts.is_clean() && report.unfinished == 0)),
+        Err(fault) => Err(fault),
     }
 }
 
-/// Writes the report of the log in a reader.
-fn check_read<A: Allocator + Copy, I: Read, O: Write, E: Write>(
-    alloc: A,
+/// Writes the report of the log in a reader. Returns its status, or its fault.
+fn report_read<I: Source, O: Sink>(
+    alloc: Global,
+    is_explained: bool,
+    input: &mut I,
+    output: &mut O,
+    reason: &mut Option<LineReason>,
+) -> Result<u8, LogFault>
+    ensures bounded { IfOk result (λ status. status ≤ NOT_RELAYED) }
+    ensures reported { ReportsLog is_explained (I.remaining input.old) (I.remaining input.new) (O.contents output.old)
+        (O.contents output.new) result }
+    ensures caused { IfErr result (IsCheckCause (HasFailed I.Fails) (HasFailed O.Fails)) }
+{
+    if is_explained {
+        return explained_result(explain_stream(alloc, input, output, reason));
+    }
+    check_result(check_stream(alloc, input, output, reason))
+}
+
+/// Writes the report of the log in a reader, and reports its fault, if it has one. Returns the status.
+fn check_read<I: Source, O: Sink, E: Sink>(
+    alloc: Global,
     is_explained: bool,
     input: &mut I,
     output: &mut O,
     errors: &mut E,
 ) -> io::Result<u8>
     ensures bounded { IfOk result (λ status. status ≤ NOT_RELAYED) }
-    ensures reported { IfOk result (ReportEnds is_explained (I.remaining input.old) (I.remaining input.new)
-        (O.contents output.old) (O.contents output.new)) }
+    ensures checked { IfOk result (ChecksRead (HasFailed I.Fails) (HasFailed O.Fails) (HasFailed E.Fails) is_explained
+        (I.remaining input.old) (I.remaining input.new) (O.contents output.old) (O.contents output.new)
+        (E.contents errors.old) (E.contents errors.new)) }
 {
-    let mut refused = None;
-    if is_explained {
-        let answer = explain_stream(alloc, input, output, &mut refused);
-        return end_explained(answer, refused, errors);
+    let mut reason = None;
+    match report_read(alloc, is_explained, input, output, &mut reason) {
+        Ok(status) => Ok(status),
+        Err(fault) => print_log_fault(alloc, None, RefusedLog { fault, reason }, errors),
     }
-    let answer = check_stream(alloc, input, output, &mut refused);
-    end_check(answer, refused, errors)
 }
 
 /// Writes the report of the log of this name, which is a file, or standard input for `-`.
-fn check_named<R: AllocGlobal + FileOpener, I: Read, O: Write, E: Write>(
+fn check_named<R: AllocGlobal + FileOpener, I: Source, O: Sink, E: Sink>(
     rt: &R,
     name: &str,
     is_explained: bool,
@@ -102,27 +94,56 @@ fn check_named<R: AllocGlobal + FileOpener, I: Read, O: Write, E: Write>(
     errors: &mut E,
 ) -> io::Result<u8>
     ensures bounded { IfOk result (λ status. status ≤ NOT_RELAYED) }
-    ensures reported { IfOk result (λ status. ReadsNamed R.Opens R.File.remaining name.now
-        (λ log left. ReportEnds is_explained log left (O.contents output.old) (O.contents output.new) status)
-        ((status ≡ 1) × (O.contents output.new ≡ O.contents output.old))
-        (I.remaining input.old) (I.remaining input.new)) }
+    ensures checked { IfOk result (ChecksNamed R.Opens R.File.remaining is_explained
+        (SaysOfNamed (HasFailed I.Fails) (HasFailed O.Fails) (HasFailed E.Fails)) name.now
+        (I.remaining input.old) (I.remaining input.new) (O.contents output.old) (O.contents output.new)
+        (E.contents errors.old) (E.contents errors.new)) }
 {
     if name == "-" {
         return check_read(rt.alloc(), is_explained, input, output, errors);
     }
     match rt.open_input(name) {
         Ok(mut file) => check_read(rt.alloc(), is_explained, &mut file, output, errors),
-        Err(_) => print_fault(errors, LogFault::Read, FAULT),
+        Err(_) => {
+            let refused = RefusedLog::without_line(LogFault::Read);
+            print_log_fault(rt.alloc(), None, refused, errors)
+        }
+    }
+}
+
+/// Writes the report of the log of this name, or of several names.
+fn check_names<R: AllocGlobal + FileOpener, I: Source, O: Sink, E: Sink>(
+    rt: &R,
+    names: &[&str],
+    is_explained: bool,
+    input: &mut I,
+    output: &mut O,
+    errors: &mut E,
+) -> io::Result<u8>
+    ensures bounded { IfOk result (λ status. status ≤ NOT_RELAYED) }
+    ensures checked { IfOk result (ChecksNames R.Opens R.File.remaining is_explained
+        (SaysOfNamed (HasFailed I.Fails) (HasFailed O.Fails) (HasFailed E.Fails)) (map (λ name. name.now) names.now)
+        (I.remaining input.old) (I.remaining input.new) (O.contents output.old) (O.contents output.new)
+        (E.contents errors.old) (E.contents errors.new)) }
+{
+    match names {
+        [name] => check_named(rt, name, is_explained, input, output, errors),
+        _ => check_several(rt, names, is_explained, input, output, errors),
     }
 }
 
 /// Writes the report of the log of a name, or of standard input, or the reports of several logs and their table.
 ///
-/// `reported`: without a name, and for `-`, it is the report of standard input. For another name it is that of the file
-/// that was opened by it, and standard input is unread. If none could be opened, the status is 1, and nothing is written.
+/// `checked`: without a name, and for `-`, it is the report of standard input. For another name it is that of the file
+/// that was opened by it, and standard input is unread. If none could be opened, nothing is written. For several logs each
+/// report follows the name of its log, in the order of the names, and a table comes last. The status is 1 if a log has a
+/// fault. Each fault is a line on standard error, with the name of its log if there are several, and no other line is
+/// there. A failed read of standard input and a failed write happened. After a failed write nothing more is said.
 ///
-/// Not said: the reports of several logs, and why no file could be opened.
-pub fn run_check<R: AllocGlobal + FileOpener, I: Read, O: Write, E: Write>(
+/// `reported`: the same without what is said on standard error.
+///
+/// Not said: why no file could be opened; that a read of a file failed, or that memory was refused; the text of the table.
+pub fn run_check<R: AllocGlobal + FileOpener, I: Source, O: Sink, E: Sink>(
     rt: &R,
     order: CheckOrder<'_, '_>,
     input: &mut I,
@@ -130,6 +151,11 @@ pub fn run_check<R: AllocGlobal + FileOpener, I: Read, O: Write, E: Write>(
     errors: &mut E,
 ) -> io::Result<u8>
     ensures bounded { IfOk result (λ status. status ≤ NOT_RELAYED) }
+    ensures checked { IfOk result (ChecksLogs R.Opens R.File.remaining order.entry.is_explained
+        (SaysOfNamed (HasFailed I.Fails) (HasFailed O.Fails) (HasFailed E.Fails))
+        (option_map (λ files. map (λ file. file.now) files.now) order.entry.files) (I.remaining input.old)
+        (I.remaining input.new) (O.contents output.old) (O.contents output.new) (E.contents errors.old)
+        (E.contents errors.new)) }
     ensures reported { IfOk result (CheckRuns R.Opens R.File.remaining order.entry (I.remaining input.old)
         (I.remaining input.new) (O.contents output.old) (O.contents output.new)) }
 {
@@ -139,7 +165,6 @@ pub fn run_check<R: AllocGlobal + FileOpener, I: Read, O: Write, E: Write>(
     } = order;
     match files {
         None => check_read(rt.alloc(), is_explained, input, output, errors),
-        Some([name]) => check_named(rt, name, is_explained, input, output, errors),
-        Some(names) => check_several(rt, names, is_explained, input, output, errors),
+        Some(names) => check_names(rt, names, is_explained, input, output, errors),
     }
 }

@@ -1,144 +1,172 @@
 //! `check` of several logs: the report of each, and then a table of their sessions.
 
-ghost use Rattle.std.specs.Prelude.{◌≡◌, ◌≤◌, IfOk};
+ghost use Rattle.std.specs.Prelude.{◌≡◌, ◌≤◌, map, IfOk, IfErr, IfSome, OnOk, OnErr};
+ghost use Rattle.std.specs.Io.KnownBytes.{Appends};
+ghost use Rattle.daide_causes.specs.Causes.{HasFailed};
+ghost use Rattle.daide_tools.specs.Checking.{ChecksSeveral, EndsOne, EndsWithTable, IsCheckCause, ReportsLog, ReportsNamed, SaysOfNamed, fault_in, name_line, worse};
+ghost use Rattle.daide_tools.specs.Opened.{standard_input};
 
-use crate::checking::print_reason;
-use crate::faults::{CLEAN, FAULT, NOT_RELAYED, print_fault};
+use crate::checking::{check_result, explained_result};
+use crate::faults::{CLEAN, FAULT, NOT_RELAYED, RefusedLog, print_log_fault};
 use crate::opening::FileOpener;
+use daide_causes::{Sink, Source};
 use daide_log::{LineReason, LogFault, check_observed, explain_observed};
 use daide_transcript::{Sessions, write_table};
-use std::alloc::{Allocator, Global};
+use std::alloc::Global;
 use std::io;
-use std::io::{ErrorKind, Read, Write};
 
-/// A fault of a log, and why its line is not a log line.
-#[derive(Clone, Copy)]
-pub(crate) struct RefusedLog {
-    /// The fault.
-    pub(crate) fault: LogFault,
-    /// The reason, after a line that is not a log line.
-    pub(crate) reason: Option<LineReason>,
-}
-
-impl RefusedLog {
-    /// Returns a fault that is about no line.
-    pub(crate) fn without_line(fault: LogFault) -> RefusedLog {
-        RefusedLog {
-            fault,
-            reason: None,
-        }
-    }
-}
-
-/// Reports the fault of one of several logs, after its name, and what is wrong with a line that is not a log line.
-pub(crate) fn print_refused_log<E: Write>(
-    path: &str,
-    refused: RefusedLog,
-    errors: &mut E,
-) -> io::Result<()> {
-    let RefusedLog { fault, reason } = refused;
-    print_fault(errors, format_args!("{path}: {fault}"), FAULT)?;
-    print_reason(fault, reason, format_args!("{path}: "), errors);
-    Ok(())
-}
-
-/// Writes the report of a log. Returns whether nothing in it was refused, and with explanations whether it is complete.
-fn is_clean<A: Allocator + Copy, I: Read, O: Write>(
-    alloc: A,
+/// Writes the report of a log. Returns its status, or its fault.
+fn report_read<I: Source, O: Sink>(
+    alloc: Global,
     is_explained: bool,
     input: &mut I,
     output: &mut O,
     sessions: &mut Sessions,
     reason: &mut Option<LineReason>,
-) -> Result<bool, LogFault> {
+) -> Result<u8, LogFault>
+    ensures bounded { IfOk result (λ status. status ≤ NOT_RELAYED) }
+    ensures reported { ReportsLog is_explained (I.remaining input.old) (I.remaining input.new) (O.contents output.old)
+        (O.contents output.new) result }
+    ensures caused { IfErr result (IsCheckCause (HasFailed I.Fails) (HasFailed O.Fails)) }
+{
     if is_explained {
-        let report = explain_observed(alloc, input, output, sessions, reason)?;
-        return Ok(report.counts.is_clean() && report.unfinished == 0);
+        return explained_result(explain_observed(alloc, input, output, sessions, reason));
     }
-    Ok(check_observed(alloc, input, output, sessions, reason)?.is_clean())
-}
-
-/// Writes the report of a log, as `is_clean` does.
-fn report_read<A: Allocator + Copy, I: Read, O: Write>(
-    alloc: A,
-    is_explained: bool,
-    input: &mut I,
-    output: &mut O,
-    sessions: &mut Sessions,
-) -> Result<bool, RefusedLog> {
-    let mut reason = None;
-    match is_clean(alloc, is_explained, input, output, sessions, &mut reason) {
-        Ok(answer) => Ok(answer),
-        Err(fault) => Err(RefusedLog { fault, reason }),
-    }
+    check_result(check_observed(alloc, input, output, sessions, reason))
 }
 
 /// Writes the name of a log as a comment, with `?` for each control character.
-fn write_name<O: Write>(path: &str, output: &mut O) -> io::Result<()> {
-    output.write_all(b"# ")?;
-    for byte in path.as_bytes() {
+pub(crate) fn write_name<O: Sink>(path: &str, output: &mut O) -> io::Result<()>
+    ensures written { OnOk result (Appends (O.contents output.old) (O.contents output.new) (name_line path.now)) }
+    ensures failed { OnErr result (HasFailed O.Fails) }
+{
+    output.write_whole(b"# ")?;
+    let mut rest = path.as_bytes();
+    while let [byte, others @ ..] = rest {
         let shown = if byte.is_ascii_control() { b'?' } else { *byte };
-        output.write_all(&[shown])?;
+        output.write_whole(&[shown])?;
+        rest = others;
     }
-    output.write_all(b"\n")
+    output.write_whole(b"\n")
 }
 
-/// Writes the name and the report of the log at a path, or of standard input for `-`. Returns what `is_clean` does.
-fn report_at<R: AllocGlobal + FileOpener, I: Read, O: Write>(
+/// Writes the report of the log at a path, or of standard input for `-`. Returns its status, or its fault.
+fn report_at<R: AllocGlobal + FileOpener, I: Source, O: Sink>(
     rt: &R,
     path: &str,
     is_explained: bool,
     input: &mut I,
     output: &mut O,
     sessions: &mut Sessions,
-) -> Result<bool, RefusedLog> {
-    if write_name(path, output).is_err() {
-        return Err(RefusedLog::without_line(LogFault::Write));
+) -> Result<u8, RefusedLog>
+    ensures bounded { IfOk result (λ status. status ≤ NOT_RELAYED) }
+    ensures reported { ReportsNamed R.Opens R.File.remaining is_explained path.now (I.remaining input.old)
+        (I.remaining input.new) (O.contents output.old) (O.contents output.new) (fault_in result) }
+    ensures caused { IfErr result (λ refused. IsCheckCause (path.now ≡ standard_input → HasFailed I.Fails)
+        (HasFailed O.Fails) refused.fault) }
+{
+    let mut reason = None;
+    let answer = if path == "-" {
+        report_read(
+            rt.alloc(),
+            is_explained,
+            input,
+            output,
+            sessions,
+            &mut reason,
+        )
+    } else {
+        match rt.open_input(path) {
+            Ok(mut file) => report_read(
+                rt.alloc(),
+                is_explained,
+                &mut file,
+                output,
+                sessions,
+                &mut reason,
+            ),
+            Err(_) => Err(LogFault::Read),
+        }
+    };
+    match answer {
+        Ok(status) => Ok(status),
+        Err(fault) => Err(RefusedLog { fault, reason }),
+    }
+}
+
+/// Writes the name and the report of a log, and reports its fault. Returns its status. Returns `None` if a write failed,
+/// which is not reported.
+fn check_one<R: AllocGlobal + FileOpener, I: Source, O: Sink, E: Sink>(
+    rt: &R,
+    path: &str,
+    is_explained: bool,
+    input: &mut I,
+    output: &mut O,
+    errors: &mut E,
+    sessions: &mut Sessions,
+) -> io::Result<Option<u8>>
+    ensures bounded { IfOk result (λ one. IfSome one (λ status. status ≤ NOT_RELAYED)) }
+    ensures checked { IfOk result (EndsOne R.Opens R.File.remaining is_explained
+        (SaysOfNamed (HasFailed I.Fails) (HasFailed O.Fails) (HasFailed E.Fails)) (HasFailed O.Fails) path.now
+        (I.remaining input.old) (I.remaining input.new) (O.contents output.old) (O.contents output.new)
+        (E.contents errors.old) (E.contents errors.new)) }
+{
+    if let Err(_) = write_name(path, output) {
+        return Ok(None);
     }
     sessions.begin_log();
-    if path == "-" {
-        return report_read(rt.alloc(), is_explained, input, output, sessions);
-    }
-    match rt.open_input(path) {
-        Ok(mut file) => report_read(rt.alloc(), is_explained, &mut file, output, sessions),
-        Err(_) => Err(RefusedLog::without_line(LogFault::Read)),
+    match report_at(rt, path, is_explained, input, output, sessions) {
+        Ok(status) => Ok(Some(status)),
+        Err(refused) if matches!(refused.fault, LogFault::Write) => Ok(None),
+        Err(refused) => match print_log_fault(rt.alloc(), Some(path), refused, errors) {
+            Ok(status) => Ok(Some(status)),
+            Err(error) => Err(error),
+        },
     }
 }
 
-/// Returns the status of several logs.
-fn status_of(has_fault: bool, are_clean: bool) -> u8
-    ensures { result ≤ NOT_RELAYED }
+/// Returns the status of several logs: a fault is more than a refusal.
+fn worse(before: u8, one: u8) -> u8
+    ensures status { result ≡ worse before one }
+    ensures bounded { before ≤ NOT_RELAYED → one ≤ NOT_RELAYED → result ≤ NOT_RELAYED }
 {
-    match (has_fault, are_clean) {
-        (true, _) => FAULT,
-        (false, true) => CLEAN,
-        (false, false) => NOT_RELAYED,
+    if before == FAULT || one == FAULT {
+        return FAULT;
     }
+    before.max(one)
 }
 
-/// Writes the table, and returns the status.
-fn end_with_table<O: Write, E: Write>(
+/// Writes the table. Returns the status: that of the logs, or of a fault, which is reported.
+fn end_with_table<O: Sink, E: Sink>(
     alloc: Global,
     status: u8,
     sessions: &Sessions,
     output: &mut O,
     errors: &mut E,
 ) -> io::Result<u8>
-    requires { status ≤ NOT_RELAYED }
-    ensures { IfOk result (λ given. given ≤ NOT_RELAYED) }
+    ensures bounded { status ≤ NOT_RELAYED → IfOk result (λ given. given ≤ NOT_RELAYED) }
+    ensures ended { IfOk result (EndsWithTable (SaysOfNamed ⊥ (HasFailed O.Fails) (HasFailed E.Fails))
+        (O.contents output.old) (O.contents output.new) (E.contents errors.old) (E.contents errors.new) status) }
 {
-    match write_table(alloc, sessions, output) {
+    let mut table = Vec::new(alloc);
+    if let Err(_) = write_table(alloc, sessions, &mut table) {
+        let refused = RefusedLog::without_line(LogFault::Memory);
+        return print_log_fault(alloc, None, refused, errors);
+    }
+    match output.write_whole(table.as_slice()) {
         Ok(()) => Ok(status),
-        Err(error) if error.kind() == ErrorKind::OutOfMemory => {
-            print_fault(errors, LogFault::Memory, FAULT)
-        }
-        Err(_) => print_fault(errors, LogFault::Write, FAULT),
+        Err(_) => print_log_fault(
+            alloc,
+            None,
+            RefusedLog::without_line(LogFault::Write),
+            errors,
+        ),
     }
 }
 
 /// Writes the reports of logs, each after its name, and a table of their sessions. A log with a fault does not keep the
 /// others from their reports.
-pub(crate) fn check_several<R: AllocGlobal + FileOpener, I: Read, O: Write, E: Write>(
+pub(crate) fn check_several<R: AllocGlobal + FileOpener, I: Source, O: Sink, E: Sink>(
     rt: &R,
     paths: &[&str],
     is_explained: bool,
@@ -146,22 +174,23 @@ pub(crate) fn check_several<R: AllocGlobal + FileOpener, I: Read, O: Write, E: W
     output: &mut O,
     errors: &mut E,
 ) -> io::Result<u8>
-    ensures { IfOk result (λ status. status ≤ NOT_RELAYED) }
+    ensures bounded { IfOk result (λ status. status ≤ NOT_RELAYED) }
+    ensures checked { IfOk result (ChecksSeveral R.Opens R.File.remaining is_explained
+        (SaysOfNamed (HasFailed I.Fails) (HasFailed O.Fails) (HasFailed E.Fails)) (map (λ path. path.now) paths.now)
+        (I.remaining input.old) (I.remaining input.new) (O.contents output.old) (O.contents output.new)
+        (E.contents errors.old) (E.contents errors.new)) }
 {
     let mut sessions = Sessions::new(rt.alloc());
-    let (mut has_fault, mut are_clean) = (false, true);
-    for path in paths {
-        match report_at(rt, path, is_explained, input, output, &mut sessions) {
-            Ok(one) => are_clean &= one,
-            Err(refused) => {
-                if matches!(refused.fault, LogFault::Write) {
-                    return print_fault(errors, LogFault::Write, FAULT);
-                }
-                print_refused_log(path, refused, errors)?;
-                has_fault = true;
-            }
-        }
+    let mut status = CLEAN;
+    let mut rest = paths;
+    while let [path, others @ ..] = rest {
+        let checked = check_one(rt, path, is_explained, input, output, errors, &mut sessions)?;
+        let Some(one) = checked else {
+            let refused = RefusedLog::without_line(LogFault::Write);
+            return print_log_fault(rt.alloc(), None, refused, errors);
+        };
+        status = worse(status, one);
+        rest = others;
     }
-    let status = status_of(has_fault, are_clean);
     end_with_table(rt.alloc(), status, &sessions, output, errors)
 }

@@ -2,9 +2,8 @@
 
 ghost use Rattle.std.specs.Prelude.{◌≡◌, ◌≤◌, IfOk};
 
-use crate::faults::{CLEAN, FAULT, print_fault};
+use crate::faults::{CLEAN, FAULT, RefusedLog, print_fault, print_log_fault};
 use crate::opening::FileOpener;
-use crate::several::{RefusedLog, print_refused_log};
 use daide_command_line::arguments::TranscriptOrder;
 use daide_log::{LogFault, explain_observed};
 use daide_transcript::{MessageFormat, Transcript};
@@ -62,7 +61,7 @@ pub fn run_transcript<R: AllocGlobal + FileOpener, I: Read, O: Write, E: Write>(
     let mut has_fault = false;
     for path in order.records.unwrap_or(&["-"]) {
         if let Err(refused) = add_at(rt, path, input, &mut transcript) {
-            print_refused_log(path, refused, errors)?;
+            print_log_fault(rt.alloc(), Some(path), refused, errors)?;
             has_fault = true;
         }
     }

@@ -12,4 +12,4 @@ returns-in_default g c =
     (λ status e. frame_without_memory _ (names_of (words_of c.args.words.now))
     (Some (join_with_byte 32 (map (λ word. word.now) c.args.typed.now) ++ 10 ∷ []))
     (g.O.Write.contents c.args.output.now) status c.in_default.ensures.refused e)
-    c.print_fault.ensures
+    c.print_fault.ensures.status

@@ -7,7 +7,7 @@ use Rattle.daide_tools.proofs.framing.run_frame.Goals as goal
 pub returns-in-Err-clause-framed : goal.returns-in-Err-clause-framed
 returns-in-Err-clause-framed g c =
     IfOk-weaker c.print_fault.result _ _
-    (λ status e. inl (c.in-Err.ensures.none, e, keeps_same (g.O.Write.contents c.args.output.now))) c.print_fault.ensures
+    (λ status e. inl (c.in-Err.ensures.none, e, keeps_same (g.O.Write.contents c.args.output.now))) c.print_fault.ensures.status
 
 pub returns-in-Some-clause-framed : goal.returns-in-Some-clause-framed
 returns-in-Some-clause-framed g c =

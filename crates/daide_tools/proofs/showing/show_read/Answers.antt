@@ -10,4 +10,4 @@ returns-in-Err g c =
     (g.O.Write.contents c.args.output.now) c.in-Err.fault status
     (reading_fault _ _ _ c.in-Err.ensures.too_long c.in-Err.ensures.faults)
     (show_cause_of _ (λ h. h) (λ h. absurd h) c.in-Err.fault c.in-Err.ensures.caused) e)
-    c.print_fault.ensures
+    c.print_fault.ensures.status

@@ -10,4 +10,4 @@ returns-in_default g c =
     IfOk-weaker c.print_fault.result _ _
     (λ status e. show_without_memory _ (request_of c.args.request.now)
     (Some (join_with_byte 32 (map (λ word. word.now) c.args.words.now))) (g.O.Write.contents c.args.output.now) status c.in_default.ensures.refused e)
-    c.print_fault.ensures
+    c.print_fault.ensures.status
