@@ -619,6 +619,32 @@ def answers_of_others_are_told(program):
                      f"'{words}' that gets {answer!r}")
 
 
+def titled(match):
+    """Returns the status of a run as a table without its seconds, after the name of its file."""
+    return re.sub(r"up \d+ s", "up", f"# {match.settings}\n{match.status()}")
+
+
+def status_of_several_runs(program):
+    """Each run's answer is printed in the order of the files, a table after the name of its file. A run without an answer
+    keeps no other from its own, and its fault names its file."""
+    with Match(program, "max_sessions = 2\nsessions = 5") as first, Match(program, "sessions = 3") as second:
+        first.opens()
+        closed = second.room / "closed.toml"
+        closed.write_text(second.settings.read_text(encoding="utf-8").replace("/control'", "/closed'"), encoding="utf-8")
+        files = (first.settings, closed, "no-such-file", second.settings)
+        wanted = titled(first) + titled(second)
+        printed, told, status, _ = first.command("status", *map(str, files))
+        same((re.sub(r"up \d+ s", "up", printed), status), (wanted, 1), "the tables")
+        same(told, f"daide-gate: {closed}: {second.room}/closed: nobody listens\n"
+             "daide-gate: no-such-file: settings could not be read: no-such-file: entity not found\n", "the faults")
+        printed, told, status, _ = first.command("status", "--format=json", str(second.settings), str(first.settings))
+        same((told, status), ("", 0), "the documents")
+        found, end = json.JSONDecoder().raw_decode(printed)
+        other = json.loads(printed[end:])
+        same(([row["phase"] for row in found["sessions"]], [row["phase"] for row in other["sessions"]]), ([], ["open"]),
+             "the sessions of the second run, and of the first")
+
+
 def script_ends_a_session(program, send, number, change=None):
     """Checks that the script at the top ends a session with FM at this signal, and has the run's status. Before that the
     file of the settings is changed."""
@@ -678,6 +704,7 @@ TESTS = [
     stale_socket_is_replaced,
     requests_without_a_run_say_why,
     answers_of_others_are_told,
+    status_of_several_runs,
     script_stops_a_run_by_the_protocol,
     script_stops_a_run_whose_settings_changed,
 ]

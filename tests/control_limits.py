@@ -5,8 +5,11 @@ The expected texts are worked out from docs/FORMATS.md and docs/OPERATING.md. Ea
 
 import json
 import os
+import resource
 import signal
+import socket
 import subprocess
+import time
 
 from acts import fill_queue
 from addresses import settings_of
@@ -109,6 +112,51 @@ def suspended_run_is_waited_for_five_seconds(program):
         same(stopped[:3], ("", f"daide-gate: {match.control}: still running\n", 1), "the stop")
 
 
+def fills_queue(match):
+    """Connects to a control socket until its queue is full. Returns the connections."""
+    resource.setrlimit(resource.RLIMIT_NOFILE, (resource.getrlimit(resource.RLIMIT_NOFILE)[1],) * 2)
+    clients = []
+    while True:
+        client = socket.socket(socket.AF_UNIX)
+        clients.append(client)
+        client.setblocking(False)
+        try:
+            client.connect(match.control)
+        except BlockingIOError:
+            return clients
+
+
+def full_queue_is_waited_for_five_seconds(program):
+    """A suspended run accepts no connection, so the queue of its control socket fills. A status and a stop are given up
+    after five seconds, and a stop after its timeout, if that is shorter."""
+    with Match(program, "endless = true") as match:
+        match.process.send_signal(signal.SIGSTOP)
+        clients = fills_queue(match)
+        wanted = ("", f"daide-gate: {match.control}: the run accepts no connection\n", 1)
+        for words, least, most in ((["status"], SILENCE, SECONDS), (["stop"], SILENCE, SECONDS), (["stop", "--timeout", "1"], 1, SILENCE)):
+            *found, seconds = match.command(*words, str(match.settings))
+            same(tuple(found), wanted, f"{words}")
+            if not least <= seconds < most:
+                raise Wrong(f"{words} took {seconds:.1f} s")
+        for client in clients:
+            client.close()
+
+
+def queue_with_room_again_is_used(program):
+    """A status that waits for a place in the queue is printed once the run goes on."""
+    with Match(program, "endless = true") as match:
+        match.process.send_signal(signal.SIGSTOP)
+        clients = fills_queue(match)
+        asking = subprocess.Popen([*match.program, "status", str(match.settings)], stdout=subprocess.PIPE,
+                                  stderr=subprocess.PIPE, text=True)
+        for client in clients:
+            client.close()
+        time.sleep(1)
+        match.process.send_signal(signal.SIGCONT)
+        printed, told = asking.communicate(timeout=SECONDS)
+        same((printed.split(",")[0], told, asking.returncode), ("0 open", "", 0), "the status")
+
+
 def status_shows_150_sessions(program):
     """Each form has each session, in order."""
     with Match(program, f"max_sessions = {MANY}\nsessions = {MANY}") as match:
@@ -132,5 +180,7 @@ TESTS = [
     status_beside_a_hung_bot_after_stop_now,
     stop_now_beside_a_connect_blames_no_server,
     suspended_run_is_waited_for_five_seconds,
+    full_queue_is_waited_for_five_seconds,
+    queue_with_room_again_is_used,
     status_shows_150_sessions,
 ]

@@ -61,6 +61,19 @@ transcribed_records : option_map (λ p. all_of (codes "RECORD") p.1) (subcommand
 unfolding clap_on_literals
 transcribed_records = refl
 
+-- the status of two runs
+abbrev asked : List Text
+asked = codes "daide-gate" ∷ codes "status" ∷ codes "a.toml" ∷ codes "b.toml" ∷ []
+
+asked_settings : option_map (λ p. all_of (codes "SETTINGS") p.1) (subcommand_of gate_app asked)
+    ≡ Some (Some (codes "a.toml" ∷ codes "b.toml" ∷ []))
+unfolding clap_on_literals
+asked_settings = refl
+
+asked_without_settings : fault_of gate_app (codes "daide-gate" ∷ codes "status" ∷ []) ≡ MissingRequiredArgument ∷ []
+unfolding clap_on_literals
+asked_without_settings = refl
+
 -- a run with records
 abbrev recorded : List Text
 recorded = codes "daide-gate" ∷ codes "run" ∷ codes "--record" ∷ codes "logs" ∷ codes "a.toml" ∷ []

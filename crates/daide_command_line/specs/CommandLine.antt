@@ -51,6 +51,10 @@ words_rule name = record (new_rule name) {
   range = Some (record { start_inclusive = 1; end_inclusive = usize_max });
 }
 
+-- the same, of which at least one must be given
+abbrev pub required_words_rule : Text → Rule
+required_words_rule name = record (words_rule name) { required = true }
+
 -- one word that is not an option
 abbrev pub word_rule : Text → Bool → Rule
 word_rule name required = record (new_rule name) { action = Some Set; required = required }
@@ -81,7 +85,7 @@ run_app = with_rules (codes "run")
     (lettered_rule (codes "verbose") 118 ∷ option_rule (codes "record") ∷ word_rule (codes "SETTINGS") true ∷ [])
 
 abbrev pub status_app : App
-status_app = with_rules (codes "status") (option_rule (codes "format") ∷ word_rule (codes "SETTINGS") true ∷ [])
+status_app = with_rules (codes "status") (option_rule (codes "format") ∷ required_words_rule (codes "SETTINGS") ∷ [])
 
 abbrev pub stop_app : App
 stop_app = with_rules (codes "stop")
@@ -193,7 +197,7 @@ IsShowOrder (Some side) (Some level) rows order = (show : ShowOrder) × (order �
 abbrev pub IsStatusOrder : Option Format → List Row → Order → Type 0
 IsStatusOrder None rows order = order ≡ BadFormat
 IsStatusOrder (Some format) rows order = (status : StatusOrder) × (order ≡ Status status) × (status.format ≡ format)
-    × (status.settings.now ≡ unwrap_or (first_of (codes "SETTINGS") rows) [])
+    × (option_map (λ paths. map (λ path. path.now) paths.now) status.settings ≡ all_of (codes "SETTINGS") rows)
 
 -- the order of `stop`, with a timeout or without one
 abbrev pub IsStopWithin : Option ℕ → List Row → Order → Type 0

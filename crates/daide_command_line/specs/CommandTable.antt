@@ -4,11 +4,11 @@ use Rattle.clap.specs.Words.{Rule, Shape, Text}
 use Rattle.clap.specs.declared.builder.arg.Arg.{Arg}
 use Rattle.clap.specs.declared.builder.command.Command.{Command}
 use Rattle.clap.specs.declared.builder.command.Command.TheViews.{out-Command}
-use Rattle.daide_command_line.specs.CommandLine.{flag_rule, lettered_rule, option_rule, with_rules, word_rule, words_rule}
+use Rattle.daide_command_line.specs.CommandLine.{flag_rule, lettered_rule, option_rule, required_words_rule, with_rules, word_rule, words_rule}
 use Rattle.daide_command_line.specs.declared.command_line.Argument.{Argument}
 use Rattle.daide_command_line.specs.declared.command_line.CommandRow.{CommandRow}
 use Rattle.daide_command_line.specs.declared.command_line.Takes.{Takes}
-use Rattle.daide_command_line.specs.declared.command_line.Takes.TheVariants.{RequiredWord, Nothing, NothingOr, Value, Words}
+use Rattle.daide_command_line.specs.declared.command_line.Takes.TheVariants.{RequiredWord, RequiredWords, Nothing, NothingOr, Value, Words}
 
 -- the rule of an argument, by what it takes
 abbrev pub rule_taking : Text → Takes → Rule
@@ -17,6 +17,7 @@ rule_taking name Nothing = flag_rule name
 rule_taking name (NothingOr letter) = lettered_rule name letter
 rule_taking name RequiredWord = word_rule name true
 rule_taking name Words = words_rule name
+rule_taking name RequiredWords = required_words_rule name
 
 abbrev pub rule_for : Argument → Rule
 rule_for argument = rule_taking argument.name.now argument.takes

@@ -31,8 +31,8 @@ pub enum Order<'m, 'a> {
     Settings(SettingsOrder<'a>),
     /// Serve.
     Run(RunOrder<'a>),
-    /// Print the status of a run.
-    Status(StatusOrder<'a>),
+    /// Print the status of runs.
+    Status(StatusOrder<'m, 'a>),
     /// Stop a run.
     Stop(StopOrder<'a>),
     /// The value of `--side` is not a side.
@@ -109,11 +109,11 @@ pub struct RunOrder<'a> {
     pub record: Option<&'a str>,
 }
 
-/// The order to print the status of a run.
+/// The order to print the status of runs.
 #[derive(Clone, Copy)]
-pub struct StatusOrder<'a> {
-    /// The path of the settings of the run.
-    pub settings: &'a str,
+pub struct StatusOrder<'m, 'a> {
+    /// The paths of the settings of the runs. The words of a command line have one at least.
+    pub settings: Option<&'m [&'a str]>,
     /// The form of the status.
     pub format: Format,
 }
@@ -301,7 +301,7 @@ fn settings_order<'a>(settings: &ArgMatches<'a>) -> SettingsOrder<'a>
 }
 
 /// Returns the order of `status`.
-fn status_order<'m, 'a>(status: &ArgMatches<'a>) -> Order<'m, 'a>
+fn status_order<'m, 'a>(status: &'m ArgMatches<'a>) -> Order<'m, 'a>
     ensures { IsStatusOrder (format_named (unwrap_or (first_of (codes "format") (rows_of (found_of status.now))) (codes "table")))
         (rows_of (found_of status.now)) result }
 {
@@ -309,7 +309,7 @@ fn status_order<'m, 'a>(status: &ArgMatches<'a>) -> Order<'m, 'a>
         return Order::BadFormat;
     };
     Order::Status(StatusOrder {
-        settings: value_of(status, "SETTINGS").unwrap_or(""),
+        settings: values_of(status, "SETTINGS"),
         format,
     })
 }

@@ -23,6 +23,8 @@ enum Takes {
     RequiredWord,
     /// All words that are not options.
     Words,
+    /// All words that are not options, at least one.
+    RequiredWords,
 }
 
 /// An argument of a command.
@@ -133,13 +135,15 @@ Examples:
 
 /// The help on the output of `status`, with examples and exit statuses.
 const STATUS_NOTES: &str = "\
-It asks the run of these settings over the socket at the path of their key 'control', and prints the answer: first the
-run, then each open session with its number, its bot, its phase and level, its frames by what was done with them, the
-bytes that wait for each side, and the seconds since each side's last byte. docs/FORMATS.md has the three forms.
-The exit status is 0 if the status was printed, and else 1.
+It asks the run of each file over the socket at the path of its key 'control', and prints the answers, one after the
+other: first the run, then each open session with its number, its bot, its phase and level, its frames by what was done
+with them, the bytes that wait for each side, and the seconds since each side's last byte. For several files a table
+follows its file's name. docs/FORMATS.md has the three forms.
+A run that accepts or answers nothing is given up after five seconds. The exit status is 0 if each status was printed,
+and else 1.
 
 Examples:
-  daide-gate status tournament.toml
+  daide-gate status tournament.toml final.toml
   daide-gate status --format json tournament.toml";
 
 /// The help on `stop`, with examples and exit statuses.
@@ -289,7 +293,7 @@ const COMMANDS: &[CommandRow] = &[
     },
     CommandRow {
         name: "status",
-        about: "Prints the status of a run and of its open sessions",
+        about: "Prints the status of runs and of their open sessions",
         notes: STATUS_NOTES,
         arguments: &[
             Argument {
@@ -299,8 +303,8 @@ const COMMANDS: &[CommandRow] = &[
             },
             Argument {
                 name: "SETTINGS",
-                takes: Takes::RequiredWord,
-                help: SETTINGS_OF_RUN,
+                takes: Takes::RequiredWords,
+                help: "The files of settings of the runs, each with the key 'control'",
             },
         ],
         takes_numbers: false,
@@ -345,6 +349,7 @@ fn arg_of<'a>(alloc: Global, row: &'a Argument, takes_negative: bool) -> Arg<'a>
             .action(ArgAction::Append)
             .num_args(1..)
             .allow_negative_numbers(takes_negative),
+        Takes::RequiredWords => arg.required(true).action(ArgAction::Append).num_args(1..),
     }
 }
 

@@ -1,24 +1,79 @@
--- The end of a request for a status.
-use Rattle.std.proofs.Common.{◌≡◌, ◌≢◌, ◌≤◌, ℕ, List, [], length, Option, Result, Ok, Err, OnOk, IfSome, subst}
+-- The end of a request for a status, and of several.
+use Rattle.std.proofs.Common.{◌<◌, ◌≡◌, ◌≢◌, ◌≤◌, ◌⊎◌, ◌++◌, ℕ, max, List, [], ◌∷◌, length, map, Option, Result, Ok, Err, OnOk, IfSome, subst, refl, inl, inr, ◌∙◌, Bor, Bool, nat_lt, arith, ap, sym}
+use Rattle.std.proofs.lemmas.List.{length-map}
 use Rattle.std.specs.Io.KnownBytes.{Appends}
 use Rattle.daide_status.specs.declared.request.ControlRequest.{ControlRequest}
-use Rattle.daide_tools.specs.Controlling.{AnswersOver, request_line, longest_answer}
+use Rattle.daide_status.specs.declared.request.Format.{Format}
+use Rattle.daide_tools.specs.Controlling.{AnswersOver, AreAnswersAfter, EndsStatus, EndsStatuses, IsAnswerAfter, IsAnswerPrinted, StatusEnds, request_line, longest_answer, title_for}
 
--- what was read after the request was sent, and was printed, is the answer
+-- what was read after the request was sent, and was printed after a title, is the answer
 pub answered : {S E : Type 0} (contents remaining : S → Option (List ℕ)) (request : ControlRequest) (stream sent : S)
-    (answer shown : List ℕ) (old new : Option (List ℕ)) (result : Result (Unit {0}) E) → shown ≡ answer →
+    (title answer shown : List ℕ) (old new : Option (List ℕ)) (result : Result (Unit {0}) E) → shown ≡ answer →
     Appends (contents stream) (contents sent) (request_line request) → length answer ≤ longest_answer →
-    IfSome (remaining sent) (λ all. answer ≡ all) → OnOk result (shown ≢ []) → OnOk result (Appends old new shown) →
-    OnOk result (AnswersOver contents remaining request stream old new)
-answered contents remaining request stream sent answer shown old new (Ok done) same asked few whole some printed = record {
+    IfSome (remaining sent) (λ all. answer ≡ all) → OnOk result (shown ≢ []) → OnOk result (Appends old new (title ++ shown)) →
+    OnOk result (AnswersOver contents remaining request stream title old new)
+answered contents remaining request stream sent title answer shown old new (Ok done) same asked few whole some printed = record {
   sent = sent;
   asked = asked;
   printed = record {
     answer = answer;
     some = subst (λ (bytes : List ℕ). bytes ≢ []) same some;
     few = few;
-    printed = subst (λ (bytes : List ℕ). Appends old new bytes) same printed;
+    printed = subst (λ (bytes : List ℕ). Appends old new (title ++ bytes)) same printed;
   };
   whole = whole;
 }
-answered contents remaining request stream sent answer shown old new (Err fault) same asked few whole some printed = tt
+answered contents remaining request stream sent title answer shown old new (Err fault) same asked few whole some printed = tt
+
+-- if the status of all is 0, that of each is
+no_earlier : (a b : ℕ) → max a b ≡ 0 → a ≡ 0
+no_earlier a b none = omega (arith, none)
+
+no_later : (a b : ℕ) → max a b ≡ 0 → b ≡ 0
+no_later a b none = omega (arith, none)
+
+before_is_clean : (titles : List (List ℕ)) (old new : Option (List ℕ)) (before status : ℕ) →
+    EndsStatuses titles old new before status → status ≡ 0 → before ≡ 0
+before_is_clean [] old new before status h clean = omega (arith, h.1, clean)
+before_is_clean (title ∷ titles) old new before status h clean =
+    no_earlier before h.1 (before_is_clean titles h.0 new _ status h.3 clean)
+
+answer_of_clean : (title : List ℕ) (old new : Option (List ℕ)) (status : ℕ) → EndsStatus title old new status → status ≡ 0 →
+    IsAnswerAfter title old new
+answer_of_clean title old new status (inl h) clean = h.1
+answer_of_clean title old new status (inr h) clean = absurd (omega (arith, h.0, clean))
+
+answers_of_clean : (titles : List (List ℕ)) (old new : Option (List ℕ)) (before status : ℕ) →
+    EndsStatuses titles old new before status → status ≡ 0 → AreAnswersAfter titles old new
+answers_of_clean [] old new before status h clean = h.0
+answers_of_clean (title ∷ titles) old new before status h clean = (
+  h.0,
+  answer_of_clean title old h.0 h.1 h.2 (no_later before h.1 (before_is_clean titles h.0 new _ status h.3 clean)),
+  answers_of_clean titles h.0 new _ status h.3 clean,
+)
+
+-- a status of 0 has an answer at least
+pub printed_if_clean : (write : Type 0) (format : Format) (names : List (List ℕ)) (old new : Option (List ℕ)) (status : ℕ) →
+    StatusEnds write format names old new status → status ≡ 0 → IsAnswerPrinted old new
+printed_if_clean write format [] old new status h clean = absurd (omega (arith, h.0, clean))
+printed_if_clean write format (name ∷ names) old new status (inl h) clean =
+    (_, _, answers_of_clean (map (title_for (nat_lt 1 (length (name ∷ names))) format) (name ∷ names)) old new 0 status h clean)
+printed_if_clean write format (name ∷ names) old new status (inr h) clean = absurd (omega (arith, h.1, clean))
+
+-- the status of no runs
+pub none_ended : (title : List ℕ → List ℕ) (rest : List (Bor (List ℕ))) (known : Option (List ℕ)) (status : ℕ) →
+    length rest < 1 → EndsStatuses (map title (map (λ name. name.now) rest)) known known status status
+none_ended title [] known status few = (refl, refl)
+none_ended title (name ∷ rest) known status few = absurd (omega (arith, few))
+
+-- the status of some runs, by whether they are several
+pub each_ended : (write : Type 0) (format : Format) (several : Bool) (names : List (Bor (List ℕ))) (old new : Option (List ℕ))
+    (status : ℕ) → length names ≢ 0 → several ≡ nat_lt 1 (length names) →
+    EndsStatuses (map (title_for several format) (map (λ name. name.now) names)) old new 0 status ⊎ (write × (status ≡ 1)) →
+    StatusEnds write format (map (λ name. name.now) names) old new status
+each_ended write format several [] old new status some same h = absurd (some refl)
+each_ended write format several (name ∷ names) old new status some same h =
+    let shown : List (List ℕ) = map (λ name. name.now) (name ∷ names) in
+    subst
+    (λ (b : Bool). EndsStatuses (map (title_for b format) shown) old new 0 status ⊎ (write × (status ≡ 1)))
+    (same ∙ ap (λ (n : ℕ). nat_lt 1 n) (sym (length-map (name ∷ names) (λ name. name.now)))) h

@@ -1,9 +1,15 @@
 -- What the commands `status` and `stop` send to a run. (own)
-use Rattle.std.specs.Prelude.{◌≡◌, ◌≢◌, ◌≤◌, ℕ, ◌++◌, Bool, true, false, List, [], ◌∷◌, length, Option, IfSome}
+use Rattle.std.specs.Prelude.{◌≡◌, ◌≢◌, ◌≤◌, ◌⊎◌, ℕ, ◌++◌, max, nat_lt, Bool, true, false, List, [], ◌∷◌, length, map, Option, Some, None, IfSome}
 use Rattle.std.specs.Io.KnownBytes.{Appends}
 use Rattle.daide_status.specs.declared.request.ControlRequest.{ControlRequest}
 use Rattle.daide_status.specs.declared.request.ControlRequest.TheVariants.{Stop, StopNow}
+use Rattle.daide_status.specs.declared.request.Format.{Format}
+use Rattle.daide_status.specs.declared.request.Format.TheVariants.{Table, Json, Prometheus}
 use Rattle.daide_status.specs.Requests.{request_text}
+use Rattle.daide_tools.specs.Checking.{name_line}
+use Rattle.daide_tools.specs.declared.controlling.RequestFault.{RequestFault}
+use Rattle.daide_tools.specs.declared.controlling.RequestFault.TheVariants.{Unreached, Unaccepted, Unsent, Unread, Silent}
+use Rattle.daide_tools.specs.declared.controlling.RequestFault.TheVariants.{Unknown, TooLong, StillRunning, Write}
 
 -- a request as it is sent: its text and a line feed
 abbrev pub request_line : ControlRequest → List ℕ
@@ -18,20 +24,76 @@ stop_request true = StopNow
 abbrev pub longest_answer : ℕ
 longest_answer = 4194304
 
--- the output got an answer of a run: some bytes, and no more than the most
-pub record IsAnswerPrinted (old new : Option (List ℕ)) : Type 0 where
+-- the output got an answer of a run after this title: some bytes, and no more than the most
+pub record IsAnswerAfter (title : List ℕ) (old new : Option (List ℕ)) : Type 0 where
   pub answer : List ℕ
   pub some : answer ≢ []
   pub few : length answer ≤ longest_answer
-  pub printed : Appends old new answer
+  pub printed : Appends old new (title ++ answer)
+
+-- an answer after each of these titles
+abbrev pub AreAnswersAfter : List (List ℕ) → Option (List ℕ) → Option (List ℕ) → Type 0
+AreAnswersAfter [] old new = new ≡ old
+AreAnswersAfter (title ∷ titles) old new =
+    (mid : Option (List ℕ)) × IsAnswerAfter title old mid × AreAnswersAfter titles mid new
+
+-- an answer at least
+abbrev pub IsAnswerPrinted : Option (List ℕ) → Option (List ℕ) → Type 0
+IsAnswerPrinted old new = (title : List ℕ) × (titles : List (List ℕ)) × AreAnswersAfter (title ∷ titles) old new
+
+-- the title of the answer for the file of this name: as a comment before a table of several, and none otherwise
+abbrev pub title_of : Option (List ℕ) → List ℕ
+title_of None = []
+title_of (Some name) = name_line name
+
+abbrev pub title_for : Bool → Format → List ℕ → List ℕ
+title_for true Table name = name_line name
+title_for true Json name = []
+title_for true Prometheus name = []
+title_for false format name = []
+
+-- the status of one run: 0 with its answer, or 1 and nothing is printed
+abbrev pub EndsStatus : List ℕ → Option (List ℕ) → Option (List ℕ) → ℕ → Type 0
+EndsStatus title old new status =
+    ((status ≡ 0) × IsAnswerAfter title old new) ⊎ ((status ≡ 1) × (new ≡ old))
+
+-- the same, or a write failed
+abbrev pub EndsStatusOr : Type 0 → List ℕ → Option (List ℕ) → Option (List ℕ) → Option ℕ → Type 0
+EndsStatusOr write title old new (Some status) = EndsStatus title old new status
+EndsStatusOr write title old new None = write
+
+-- a status that is not printed: nothing is written, unless a write failed
+abbrev pub IsUnanswered : Type 0 → Option (List ℕ) → Option (List ℕ) → RequestFault → Type 0
+IsUnanswered write old new (Unreached kind) = new ≡ old
+IsUnanswered write old new Unaccepted = new ≡ old
+IsUnanswered write old new (Unsent kind) = new ≡ old
+IsUnanswered write old new (Unread kind) = new ≡ old
+IsUnanswered write old new Silent = new ≡ old
+IsUnanswered write old new Unknown = new ≡ old
+IsUnanswered write old new TooLong = new ≡ old
+IsUnanswered write old new StillRunning = new ≡ old
+IsUnanswered write old new Write = write
+
+-- The status of each run, in order. `before` and `status` are the status of those before and of all.
+abbrev pub EndsStatuses : List (List ℕ) → Option (List ℕ) → Option (List ℕ) → ℕ → ℕ → Type 0
+EndsStatuses [] old new before status = (new ≡ old) × (status ≡ before)
+EndsStatuses (title ∷ titles) old new before status =
+    (mid : Option (List ℕ)) × (one : ℕ) × EndsStatus title old mid one × EndsStatuses titles mid new (max before one) status
+
+-- The status of the runs of these files. Without files there is none.
+abbrev pub StatusEnds : Type 0 → Format → List (List ℕ) → Option (List ℕ) → Option (List ℕ) → ℕ → Type 0
+StatusEnds write format [] old new status = (status ≡ 1) × (new ≡ old)
+StatusEnds write format (name ∷ names) old new status =
+    EndsStatuses (map (title_for (nat_lt 1 (length (name ∷ names))) format) (name ∷ names)) old new 0 status
+    ⊎ (write × (status ≡ 1))
 
 -- The streams by which a request is made: what was written to one, and what is still to be read from it.
 module _ {S : Type 0} (contents remaining : S → Option (List ℕ)) (request : ControlRequest) (stream : S) where
-  -- The request was sent over the stream, and the output got all that came then.
-  pub record AnswersOver (old new : Option (List ℕ)) : Type 0 where
+  -- the request was sent over the stream, and the output got all bytes received then, after this title
+  pub record AnswersOver (title : List ℕ) (old new : Option (List ℕ)) : Type 0 where
     pub sent : S
     pub asked : Appends (contents stream) (contents sent) (request_line request)
-    pub printed : IsAnswerPrinted old new
+    pub printed : IsAnswerAfter title old new
     pub whole : IfSome (remaining sent) (λ all. printed.answer ≡ all)
 
   -- The request was sent over the stream, and then came nothing but its end.

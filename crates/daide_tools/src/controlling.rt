@@ -3,20 +3,24 @@
 //! A request is one line, and its answer is what comes until the end of the stream. The operating system decides who
 //! listens at the path, so the contracts are about any streams.
 
-ghost use Rattle.std.specs.Prelude.{◌≡◌, ◌≢◌, ◌≤◌, ◌++◌, ◌∷◌, [], length, IfOk, OnOk, IfSome};
+ghost use Rattle.std.specs.Prelude.{◌≡◌, ◌≢◌, ◌≤◌, ◌++◌, [], length, map, option_map, unwrap_or, IfOk, IfErr, IfSome, OnOk, OnErr};
 ghost use Rattle.std.specs.Io.KnownBytes.{Appends};
-ghost use Rattle.daide_status.specs.Requests.{request_text};
-ghost use Rattle.daide_tools.specs.Controlling.{AnswersOver, EndsAfter, IsAnswerPrinted, request_line, stop_request, longest_answer};
+ghost use Rattle.daide_causes.specs.Causes.{HasFailed};
+ghost use Rattle.daide_tools.specs.Controlling.{AnswersOver, EndsAfter, EndsStatusOr, IsAnswerAfter, IsAnswerPrinted, IsUnanswered, StatusEnds, longest_answer, request_line, stop_request, title_for, title_of};
 
 use crate::faults::{CLEAN, FAULT, print_fault};
 use crate::opening::{FileOpener, connect};
 use crate::settings_file::{SettingsFileFault, settings_at};
+use crate::several::write_name;
+use daide_causes::Sink;
 use daide_command_line::arguments::{StatusOrder, StopOrder};
 use daide_settings::ControlPath;
 use daide_status::{ControlRequest, Format};
 use std::alloc::Global;
 use std::io::{ErrorKind, Read, Write};
 use std::net::Net;
+use std::os::unix::net::UnixStream;
+use std::rt::Clock;
 use std::time::Duration;
 use std::{fmt, io};
 
@@ -34,6 +38,8 @@ const UNKNOWN: &[u8] = b"unknown request\n";
 enum RequestFault {
     /// Nobody can be reached at the path.
     Unreached(ErrorKind),
+    /// The run did not accept the connection in time.
+    Unaccepted,
     /// The request could not be sent.
     Unsent(ErrorKind),
     /// The answer could not be read.
@@ -57,6 +63,7 @@ impl fmt::Display for RequestFault {
                 f.write_str("nobody listens")
             }
             RequestFault::Unreached(kind) => write!(f, "cannot connect: {kind}"),
+            RequestFault::Unaccepted => f.write_str("the run accepts no connection"),
             RequestFault::Unsent(kind) => write!(f, "request could not be sent: {kind}"),
             RequestFault::Unread(kind) => write!(f, "answer could not be read: {kind}"),
             RequestFault::Silent => f.write_str("no answer"),
@@ -73,9 +80,25 @@ fn is_timeout(kind: ErrorKind) -> bool {
     matches!(kind, ErrorKind::WouldBlock | ErrorKind::TimedOut)
 }
 
+/// Connects to the run at a path.
+fn reach<R: Clock + Net>(
+    rt: &R,
+    path: &ControlPath,
+    timeout: Option<Duration>,
+) -> Result<UnixStream, RequestFault>
+    ensures { IfErr result (λ fault. fault ≢ RequestFault.Write) }
+{
+    match connect(rt, path.as_str(), timeout) {
+        Ok(stream) => Ok(stream),
+        Err(kind) if is_timeout(kind) => Err(RequestFault::Unaccepted),
+        Err(kind) => Err(RequestFault::Unreached(kind)),
+    }
+}
+
 /// Sends a request.
 fn send<S: Write>(request: ControlRequest, stream: &mut S) -> Result<(), RequestFault>
-    ensures { OnOk result (Appends (S.contents stream.old) (S.contents stream.new) (request_line request)) }
+    ensures fault { IfErr result (λ fault. fault ≢ RequestFault.Write) }
+    ensures sent { OnOk result (Appends (S.contents stream.old) (S.contents stream.new) (request_line request)) }
 {
     let mut line = [0u8; 64];
     let text = request.text().as_bytes();
@@ -89,6 +112,7 @@ fn send<S: Write>(request: ControlRequest, stream: &mut S) -> Result<(), Request
 
 /// Reads an answer up to its end.
 fn answer_of<S: Read>(alloc: Global, stream: &mut S) -> Result<Vec<u8>, RequestFault>
+    ensures fault { IfErr result (λ fault. fault ≢ RequestFault.Write) }
     ensures few { IfOk result (λ answer. length answer.items ≤ longest_answer) }
     ensures whole { IfOk result (λ answer. IfSome (S.remaining stream.old) (λ all. answer.items ≡ all)) }
 {
@@ -104,10 +128,28 @@ fn answer_of<S: Read>(alloc: Global, stream: &mut S) -> Result<Vec<u8>, RequestF
     Ok(answer)
 }
 
-/// Prints an answer, unless there is none or the run does not know the request.
-fn print_answer<O: Write>(answer: &[u8], output: &mut O) -> Result<(), RequestFault>
+/// Writes an answer after its title, if it has one.
+fn write_answer<O: Sink>(title: Option<&str>, answer: &[u8], output: &mut O) -> io::Result<()>
+    ensures printed { OnOk result (Appends (O.contents output.old) (O.contents output.new)
+        (title_of (option_map (λ name. name.now) title.entry) ++ answer.now)) }
+    ensures failed { OnErr result (HasFailed O.Fails) }
+{
+    if let Some(name) = title {
+        write_name(name, output)?;
+    }
+    output.write_whole(answer)
+}
+
+/// Prints an answer after its title, unless there is none or the run does not know the request.
+fn print_answer<O: Sink>(
+    title: Option<&str>,
+    answer: &[u8],
+    output: &mut O,
+) -> Result<(), RequestFault>
     ensures some { OnOk result (answer.now ≢ []) }
-    ensures printed { OnOk result (Appends (O.contents output.old) (O.contents output.new) answer.now) }
+    ensures printed { OnOk result (Appends (O.contents output.old) (O.contents output.new)
+        (title_of (option_map (λ name. name.now) title.entry) ++ answer.now)) }
+    ensures refused { IfErr result (IsUnanswered (HasFailed O.Fails) (O.contents output.old) (O.contents output.new)) }
 {
     if answer.is_empty() {
         return Err(RequestFault::Silent);
@@ -115,38 +157,43 @@ fn print_answer<O: Write>(answer: &[u8], output: &mut O) -> Result<(), RequestFa
     if answer == UNKNOWN {
         return Err(RequestFault::Unknown);
     }
-    match output.write_all(answer) {
+    match write_answer(title, answer, output) {
         Ok(()) => Ok(()),
         Err(_) => Err(RequestFault::Write),
     }
 }
 
-/// Requests a status over a stream, and prints the answer.
-fn status_over<S: Read + Write, O: Write>(
+/// Requests a status over a stream, and prints the answer after its title.
+fn status_over<S: Read + Write, O: Sink>(
     alloc: Global,
+    title: Option<&str>,
     request: ControlRequest,
     stream: &mut S,
     output: &mut O,
 ) -> Result<(), RequestFault>
-    ensures { OnOk result (AnswersOver S.contents S.remaining request stream.old (O.contents output.old) (O.contents output.new)) }
+    ensures answered { OnOk result (AnswersOver S.contents S.remaining request stream.old
+        (title_of (option_map (λ name. name.now) title.entry)) (O.contents output.old) (O.contents output.new)) }
+    ensures refused { IfErr result (IsUnanswered (HasFailed O.Fails) (O.contents output.old) (O.contents output.new)) }
 {
     send(request, stream)?;
     let answer = answer_of(alloc, stream)?;
-    print_answer(answer.as_slice(), output)
+    print_answer(title, answer.as_slice(), output)
 }
 
 /// Requests the status of the run at a path, and prints it (`status_over`).
-fn print_status<R: AllocGlobal + Net, O: Write>(
+fn print_status<R: AllocGlobal + Clock + Net, O: Sink>(
     rt: &R,
     path: &ControlPath,
+    title: Option<&str>,
     request: ControlRequest,
     output: &mut O,
 ) -> Result<(), RequestFault>
-    ensures { OnOk result (IsAnswerPrinted (O.contents output.old) (O.contents output.new)) }
+    ensures answered { OnOk result (IsAnswerAfter (title_of (option_map (λ name. name.now) title.entry))
+        (O.contents output.old) (O.contents output.new)) }
+    ensures refused { IfErr result (IsUnanswered (HasFailed O.Fails) (O.contents output.old) (O.contents output.new)) }
 {
-    let timeout = Duration::from_secs(ANSWER_SECONDS);
-    let mut stream = connect(rt, path.as_str(), Some(timeout)).map_err(RequestFault::Unreached)?;
-    status_over(rt.alloc(), request, &mut stream, output)
+    let mut stream = reach(rt, path, Some(Duration::from_secs(ANSWER_SECONDS)))?;
+    status_over(rt.alloc(), title, request, &mut stream, output)
 }
 
 /// Waits for the end of a stream on which nothing comes before.
@@ -171,11 +218,15 @@ fn stop_over<S: Read + Write>(is_now: bool, stream: &mut S) -> Result<(), Reques
 }
 
 /// Requests a stop of the run at a path, and waits until the run is over (`stop_over`).
-fn stop_run<R: Net>(rt: &R, path: &ControlPath, order: StopOrder<'_>) -> Result<(), RequestFault> {
+fn stop_run<R: Clock + Net>(
+    rt: &R,
+    path: &ControlPath,
+    order: StopOrder<'_>,
+) -> Result<(), RequestFault> {
     let timeout = order
         .timeout
         .map(|seconds| Duration::from_secs(seconds as u64));
-    let mut stream = connect(rt, path.as_str(), timeout).map_err(RequestFault::Unreached)?;
+    let mut stream = reach(rt, path, timeout)?;
     stop_over(order.is_now, &mut stream)
 }
 
@@ -190,67 +241,175 @@ fn stop_request(is_now: bool) -> ControlRequest
     }
 }
 
-/// Reports a request that was not carried out, with the path, on standard error.
-fn end_refused<E: Write>(fault: RequestFault, path: &ControlPath, errors: &mut E) -> io::Result<u8>
-    ensures { IfOk result (λ status. status ≡ FAULT) }
-{
-    print_fault(errors, format_args!("{}: {fault}", path.as_str()), FAULT)
+/// Why an order to a run was not carried out.
+#[derive(Drop)]
+enum ControlFault<'a> {
+    /// There are no settings.
+    Settings(SettingsFileFault<'a>),
+    /// The settings have no control socket.
+    NoControl,
+    /// The request to this path was not carried out.
+    Request(&'a ControlPath, RequestFault),
 }
 
-/// Reports that settings have no control socket, or why there are none.
-fn end_without_path<E: Write>(
-    fault: Option<SettingsFileFault<'_>>,
+impl fmt::Display for ControlFault<'_> {
+    fn fmt<W: fmt::Write>(&self, f: &mut fmt::Formatter<W>) -> fmt::Result {
+        match self {
+            ControlFault::Settings(fault) => write!(f, "{fault}"),
+            ControlFault::NoControl => write!(f, "settings have no control"),
+            ControlFault::Request(path, fault) => write!(f, "{}: {fault}", path.as_str()),
+        }
+    }
+}
+
+/// Reports an order that was not carried out, after the name of its file, if there are several.
+fn end_refused<E: Sink>(
+    name: Option<&str>,
+    fault: ControlFault<'_>,
     errors: &mut E,
 ) -> io::Result<u8>
     ensures { IfOk result (λ status. status ≡ FAULT) }
 {
-    match fault {
-        Some(fault) => print_fault(errors, fault, FAULT),
-        None => print_fault(errors, "settings have no control", FAULT),
+    match name {
+        Some(name) => print_fault(errors, format_args!("{name}: {fault}"), FAULT),
+        None => print_fault(errors, fault, FAULT),
     }
 }
 
-/// Prints the status of the run with this control socket. Returns the status of the program.
-fn status_of<R: AllocGlobal + Net, O: Write, E: Write>(
+/// In which form the status of runs is printed.
+#[derive(Clone, Copy)]
+struct StatusForm {
+    format: Format,
+    /// Whether there are several runs.
+    is_several: bool,
+}
+
+impl StatusForm {
+    /// Returns the name of a file if it comes before the status of its run: before a table of several.
+    fn title<'n>(self, name: &'n str) -> Option<&'n str>
+        ensures { title_of (option_map (λ name. name.now) result) ≡ title_for self.is_several self.format name.now }
+    {
+        match (self.is_several, self.format) {
+            (true, Format::Table) => Some(name),
+            _ => None,
+        }
+    }
+
+    /// Returns the name of a file if it comes before a fault of its run: if there are several.
+    fn label<'n>(self, name: &'n str) -> Option<&'n str> {
+        if self.is_several { Some(name) } else { None }
+    }
+}
+
+/// Prints the status of the run with this control socket. Returns the status of the program, or `None` after a failed write.
+fn status_of<R: AllocGlobal + Clock + Net, O: Sink, E: Sink>(
     rt: &R,
     control: &Option<ControlPath>,
+    name: &str,
+    form: StatusForm,
+    output: &mut O,
+    errors: &mut E,
+) -> io::Result<Option<u8>>
+    ensures bounded { IfOk result (λ one. IfSome one (λ status. status ≤ FAULT)) }
+    ensures ended { IfOk result (EndsStatusOr (HasFailed O.Fails) (title_for form.is_several form.format name.now)
+        (O.contents output.old) (O.contents output.new)) }
+{
+    let Some(path) = control else {
+        let status = end_refused(form.label(name), ControlFault::NoControl, errors)?;
+        return Ok(Some(status));
+    };
+    let request = ControlRequest::Status(form.format);
+    match print_status(rt, path, form.title(name), request, output) {
+        Ok(()) => Ok(Some(CLEAN)),
+        Err(fault) => {
+            let status = end_refused(form.label(name), ControlFault::Request(path, fault), errors)?;
+            Ok(match fault {
+                RequestFault::Write => None,
+                _ => Some(status),
+            })
+        }
+    }
+}
+
+/// Does the same for the run with the settings of this name.
+fn status_at<R: AllocGlobal + FileOpener + Clock + Net, O: Sink, E: Sink>(
+    rt: &R,
+    name: &str,
+    form: StatusForm,
+    output: &mut O,
+    errors: &mut E,
+) -> io::Result<Option<u8>>
+    ensures bounded { IfOk result (λ one. IfSome one (λ status. status ≤ FAULT)) }
+    ensures ended { IfOk result (EndsStatusOr (HasFailed O.Fails) (title_for form.is_several form.format name.now)
+        (O.contents output.old) (O.contents output.new)) }
+{
+    match settings_at(rt, name) {
+        Ok(settings) => status_of(rt, &settings.control, name, form, output, errors),
+        Err(fault) => {
+            let status = end_refused(form.label(name), ControlFault::Settings(fault), errors)?;
+            Ok(Some(status))
+        }
+    }
+}
+
+/// Prints the status of the runs with the settings of these names, one after the other. Returns the status of the program.
+fn status_of_each<R: AllocGlobal + FileOpener + Clock + Net, O: Sink, E: Sink>(
+    rt: &R,
+    names: &[&str],
     format: Format,
     output: &mut O,
     errors: &mut E,
 ) -> io::Result<u8>
     ensures bounded { IfOk result (λ status. status ≤ FAULT) }
-    ensures printed { IfOk result (λ status. status ≡ CLEAN →
-        IsAnswerPrinted (O.contents output.old) (O.contents output.new)) }
+    ensures ended { IfOk result (StatusEnds (HasFailed O.Fails) format (map (λ name. name.now) names.now)
+        (O.contents output.old) (O.contents output.new)) }
 {
-    let Some(path) = control else {
-        return end_without_path(None, errors);
-    };
-    let request = ControlRequest::Status(format);
-    match print_status(rt, path, request, output) {
-        Ok(()) => Ok(CLEAN),
-        Err(fault) => end_refused(fault, path, errors),
+    if names.is_empty() {
+        return end_refused(None, ControlFault::NoControl, errors);
     }
+    let form = StatusForm {
+        format,
+        is_several: 1 < names.len(),
+    };
+    let mut status = CLEAN;
+    let mut rest = names;
+    while let [name, others @ ..] = rest {
+        let Some(one) = status_at(rt, name, form, output, errors)? else {
+            return Ok(FAULT);
+        };
+        status = status.max(one);
+        rest = others;
+    }
+    Ok(status)
 }
 
-/// Prints the status of the run with the settings of a file. Returns the status of the program.
-pub fn run_status<R: AllocGlobal + FileOpener + Net, O: Write, E: Write>(
+/// Prints the status of the runs with the settings of files, one after the other. Returns the status of the program.
+///
+/// `ended`: the answers are printed in the order of the files, each table of several after the name of its file. For a run
+/// without an answer nothing is printed, and the status is 1. After a failed write nothing more is said.
+///
+/// `printed`: status 0 means that there was an answer at least.
+pub fn run_status<R: AllocGlobal + FileOpener + Clock + Net, O: Sink, E: Sink>(
     rt: &R,
-    order: StatusOrder<'_>,
+    order: StatusOrder<'_, '_>,
     output: &mut O,
     errors: &mut E,
 ) -> io::Result<u8>
     ensures bounded { IfOk result (λ status. status ≤ FAULT) }
+    ensures ended { IfOk result (StatusEnds (HasFailed O.Fails) order.entry.format
+        (unwrap_or (option_map (λ names. map (λ name. name.now) names.now) order.entry.settings) [])
+        (O.contents output.old) (O.contents output.new)) }
     ensures printed { IfOk result (λ status. status ≡ CLEAN →
         IsAnswerPrinted (O.contents output.old) (O.contents output.new)) }
 {
-    match settings_at(rt, order.settings) {
-        Ok(settings) => status_of(rt, &settings.control, order.format, output, errors),
-        Err(fault) => end_without_path(Some(fault), errors),
+    match order.settings {
+        Some(names) => status_of_each(rt, names, order.format, output, errors),
+        None => end_refused(None, ControlFault::NoControl, errors),
     }
 }
 
 /// Stops the run with this control socket, and waits until it is over. Returns the status of the program.
-fn stop_of<R: Net, E: Write>(
+fn stop_of<R: Clock + Net, E: Sink>(
     rt: &R,
     control: &Option<ControlPath>,
     order: StopOrder<'_>,
@@ -259,17 +418,17 @@ fn stop_of<R: Net, E: Write>(
     ensures { IfOk result (λ status. status ≤ FAULT) }
 {
     let Some(path) = control else {
-        return end_without_path(None, errors);
+        return end_refused(None, ControlFault::NoControl, errors);
     };
     match stop_run(rt, path, order) {
         Ok(()) => Ok(CLEAN),
-        Err(fault) => end_refused(fault, path, errors),
+        Err(fault) => end_refused(None, ControlFault::Request(path, fault), errors),
     }
 }
 
 /// Stops the run with the settings of a file, and waits until it is over. Returns the status of the program. Nothing is
 /// written to the output.
-pub fn run_stop<R: AllocGlobal + FileOpener + Net, E: Write>(
+pub fn run_stop<R: AllocGlobal + FileOpener + Clock + Net, E: Sink>(
     rt: &R,
     order: StopOrder<'_>,
     errors: &mut E,
@@ -278,6 +437,6 @@ pub fn run_stop<R: AllocGlobal + FileOpener + Net, E: Write>(
 {
     match settings_at(rt, order.settings) {
         Ok(settings) => stop_of(rt, &settings.control, order, errors),
-        Err(fault) => end_without_path(Some(fault), errors),
+        Err(fault) => end_refused(None, ControlFault::Settings(fault), errors),
     }
 }

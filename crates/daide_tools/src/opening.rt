@@ -1,14 +1,15 @@
 //! What a command opens by a name: a file, or the control socket of a run. The other modules take what is opened as any
 //! stream.
 
-ghost use Rattle.std.specs.Prelude.{ℕ, List, Result};
+ghost use Rattle.std.specs.Prelude.{◌≤◌, ℕ, List, Result, IfOk};
 ghost use Rattle.std.specs.declared.io.ErrorKind.{ErrorKind};
 
 use std::fs;
 use std::io::ErrorKind;
 use std::net::Net;
 use std::os::unix::net::UnixStream;
-use std::rt::Files;
+use std::rt::{Clock, Files};
+use std::thread::sleep;
 use std::time::Duration;
 
 /// Opens files to be read; every file system does. Code that is generic in it does not know `Opens`, so it can show `Opens`
@@ -32,15 +33,57 @@ impl<R: Files> FileOpener for R {
     }
 }
 
-/// Connects to the control socket at a path, or returns the system's error. Each read waits for this time at most; without
-/// one it waits until something comes.
-pub(crate) fn connect<R: Net>(
+/// How often a connect waits for a place in the queue of a control socket, each time for `WAIT_MILLIS`: five seconds.
+const MOST_WAITS: u64 = 50;
+
+/// The milliseconds of such a wait.
+const WAIT_MILLIS: u64 = 100;
+
+/// Returns the number of waits within a time, at most `MOST_WAITS`.
+fn waits_within(timeout: Option<Duration>) -> u64
+    ensures { result ≤ MOST_WAITS }
+{
+    match timeout {
+        Some(time) => (time.as_secs().saturating_mul(1_000) / WAIT_MILLIS).min(MOST_WAITS),
+        None => MOST_WAITS,
+    }
+}
+
+/// Connects to the socket at a path, or returns the system's error, with the number of waits so far. It waits while the
+/// queue of the socket is full, this often, and then fails with `WouldBlock`.
+fn connect_within<R: Clock + Net>(
+    rt: &R,
+    path: &str,
+    waits: u64,
+) -> Result<(UnixStream, u64), ErrorKind>
+    ensures { IfOk result (λ connected. connected.1 ≤ waits) }
+{
+    for waited in 0..waits {
+        match mio::net::UnixStream::connect(rt, path) {
+            Ok(stream) => return Ok((UnixStream::from(stream), waited)),
+            Err(error) if error.kind() == ErrorKind::WouldBlock => {
+                sleep(rt, Duration::from_millis(WAIT_MILLIS));
+            }
+            Err(error) => return Err(error.kind()),
+        }
+    }
+    Err(ErrorKind::WouldBlock)
+}
+
+/// Connects to the control socket at a path, or returns the system's error: `WouldBlock` if its queue was full for this time,
+/// or for five seconds, if that is shorter. Each read waits for what is left of the time; without a time it waits until
+/// something comes.
+pub(crate) fn connect<R: Clock + Net>(
     rt: &R,
     path: &str,
     timeout: Option<Duration>,
 ) -> Result<UnixStream, ErrorKind> {
-    let stream = UnixStream::connect(rt, path).map_err(|error| error.kind())?;
-    match stream.set_read_timeout(timeout) {
+    let (stream, waited) = connect_within(rt, path, waits_within(timeout))?;
+    let spent = Duration::from_millis(waited * WAIT_MILLIS);
+    let shortest = Duration::from_millis(WAIT_MILLIS);
+    let left = timeout.map(|time| time.saturating_sub(spent).max(shortest));
+    let made = stream.set_nonblocking(false);
+    match made.and_then(|()| stream.set_read_timeout(left)) {
         Ok(()) => Ok(stream),
         Err(error) => Err(error.kind()),
     }
