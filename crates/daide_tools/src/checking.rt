@@ -1,6 +1,6 @@
 //! `check`: the report of a log, from a file or from standard input.
 
-ghost use Rattle.std.specs.Prelude.{◌≡◌, ◌≤◌, map, option_map, IfOk, IfErr};
+ghost use Rattle.std.specs.Prelude.{◌≡◌, ◌≤◌, map, option_map, IfOk, IfErr, OnErr};
 ghost use Rattle.daide_causes.specs.Causes.{HasFailed};
 ghost use Rattle.daide_tools.specs.Checking.{ChecksLogs, ChecksNamed, ChecksNames, ChecksRead, IsCheckCause, ReportsLog, SaysOfNamed, check_result, counts_status, explained_result};
 ghost use Rattle.daide_tools.specs.Endings.{CheckRuns};
@@ -76,6 +76,7 @@ fn check_read<I: Source, O: Sink, E: Sink>(
     ensures checked { IfOk result (ChecksRead (HasFailed I.Fails) (HasFailed O.Fails) (HasFailed E.Fails) is_explained
         (I.remaining input.old) (I.remaining input.new) (O.contents output.old) (O.contents output.new)
         (E.contents errors.old) (E.contents errors.new)) }
+    ensures unsaid { OnErr result (HasFailed E.Fails) }
 {
     let mut reason = None;
     match report_read(alloc, is_explained, input, output, &mut reason) {
@@ -98,6 +99,7 @@ fn check_named<R: AllocGlobal + FileOpener, I: Source, O: Sink, E: Sink>(
         (SaysOfNamed (HasFailed I.Fails) (HasFailed O.Fails) (HasFailed E.Fails)) name.now
         (I.remaining input.old) (I.remaining input.new) (O.contents output.old) (O.contents output.new)
         (E.contents errors.old) (E.contents errors.new)) }
+    ensures unsaid { OnErr result (HasFailed E.Fails) }
 {
     if name == "-" {
         return check_read(rt.alloc(), is_explained, input, output, errors);
@@ -125,6 +127,7 @@ fn check_names<R: AllocGlobal + FileOpener, I: Source, O: Sink, E: Sink>(
         (SaysOfNamed (HasFailed I.Fails) (HasFailed O.Fails) (HasFailed E.Fails)) (map (λ name. name.now) names.now)
         (I.remaining input.old) (I.remaining input.new) (O.contents output.old) (O.contents output.new)
         (E.contents errors.old) (E.contents errors.new)) }
+    ensures unsaid { OnErr result (HasFailed E.Fails) }
 {
     match names {
         [name] => check_named(rt, name, is_explained, input, output, errors),
@@ -142,6 +145,8 @@ fn check_names<R: AllocGlobal + FileOpener, I: Source, O: Sink, E: Sink>(
 ///
 /// `reported`: the same without what is said on standard error.
 ///
+/// `unsaid`: an error is returned only if a write to standard error failed.
+///
 /// Not said: why no file could be opened; that a read of a file failed, or that memory was refused; the text of the table.
 pub fn run_check<R: AllocGlobal + FileOpener, I: Source, O: Sink, E: Sink>(
     rt: &R,
@@ -158,6 +163,7 @@ pub fn run_check<R: AllocGlobal + FileOpener, I: Source, O: Sink, E: Sink>(
         (E.contents errors.new)) }
     ensures reported { IfOk result (CheckRuns R.Opens R.File.remaining order.entry (I.remaining input.old)
         (I.remaining input.new) (O.contents output.old) (O.contents output.new)) }
+    ensures unsaid { OnErr result (HasFailed E.Fails) }
 {
     let CheckOrder {
         files,

@@ -1,6 +1,6 @@
 //! The line that reports a fault, and the exit statuses.
 
-ghost use Rattle.std.specs.Prelude.{◌≡◌, ◌⊎◌, ℕ, List, IfOk, OnOk, IfSome, Some, option_map};
+ghost use Rattle.std.specs.Prelude.{◌≡◌, ◌⊎◌, ℕ, List, IfOk, OnOk, OnErr, IfSome, Some, option_map};
 ghost use Rattle.std.specs.Io.KnownBytes.{Appends};
 ghost use Rattle.daide_causes.specs.Causes.{HasFailed};
 ghost use Rattle.daide_tools.specs.Checking.{SaysFault, SaysWhy, error_line, fault_text, named_fault};
@@ -27,6 +27,8 @@ pub const NOT_RELAYED: u8 = 3;
 /// Reports a fault in one line on standard error. Returns the given status.
 ///
 /// `printed`: the line is `daide-gate: ` and the text of the fault, if a contract knows that text.
+///
+/// `unsaid`: an error is returned only if the write failed.
 pub fn print_fault<E: Sink, D: Display + Drop>(
     errors: &mut E,
     fault: D,
@@ -35,6 +37,7 @@ pub fn print_fault<E: Sink, D: Display + Drop>(
     ensures status { IfOk result (λ printed. printed ≡ status) }
     ensures printed { OnOk result (IfSome (D.output fault) (λ text.
         Appends (E.contents errors.old) (E.contents errors.new) (error_line text))) }
+    ensures unsaid { OnErr result (HasFailed E.Fails) }
 {
     errors.write_text(format_args_nl!("daide-gate: {fault}"))?;
     Ok(status)
@@ -142,6 +145,7 @@ pub(crate) fn print_log_fault<E: Sink>(
     ensures status { IfOk result (λ status. status ≡ 1) }
     ensures said { OnOk result (SaysFault (HasFailed E.Fails) (option_map (λ name. name.now) name.entry) refused.fault
         (E.contents errors.old) (E.contents errors.new)) }
+    ensures unsaid { OnErr result (HasFailed E.Fails) }
 {
     let fault = refused.fault;
     print_fault(errors, NamedFault { name, fault }, FAULT)?;

@@ -110,6 +110,7 @@ fn check_one<R: AllocGlobal + FileOpener, I: Source, O: Sink, E: Sink>(
         (SaysOfNamed (HasFailed I.Fails) (HasFailed O.Fails) (HasFailed E.Fails)) (HasFailed O.Fails) path.now
         (I.remaining input.old) (I.remaining input.new) (O.contents output.old) (O.contents output.new)
         (E.contents errors.old) (E.contents errors.new)) }
+    ensures unsaid { OnErr result (HasFailed E.Fails) }
 {
     if let Err(_) = write_name(path, output) {
         return Ok(None);
@@ -147,6 +148,7 @@ fn end_with_table<O: Sink, E: Sink>(
     ensures bounded { status ≤ NOT_RELAYED → IfOk result (λ given. given ≤ NOT_RELAYED) }
     ensures ended { IfOk result (EndsWithTable (SaysOfNamed ⊥ (HasFailed O.Fails) (HasFailed E.Fails))
         (O.contents output.old) (O.contents output.new) (E.contents errors.old) (E.contents errors.new) status) }
+    ensures unsaid { OnErr result (HasFailed E.Fails) }
 {
     let mut table = Vec::new(alloc);
     if let Err(_) = write_table(alloc, sessions, &mut table) {
@@ -179,6 +181,7 @@ pub(crate) fn check_several<R: AllocGlobal + FileOpener, I: Source, O: Sink, E: 
         (SaysOfNamed (HasFailed I.Fails) (HasFailed O.Fails) (HasFailed E.Fails)) (map (λ path. path.now) paths.now)
         (I.remaining input.old) (I.remaining input.new) (O.contents output.old) (O.contents output.new)
         (E.contents errors.old) (E.contents errors.new)) }
+    ensures unsaid { OnErr result (HasFailed E.Fails) }
 {
     let mut sessions = Sessions::new(rt.alloc());
     let mut status = CLEAN;
