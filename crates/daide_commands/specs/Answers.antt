@@ -12,7 +12,7 @@ use Rattle.daide_command_line.specs.declared.arguments.Order.TheVariants.{Transc
 use Rattle.daide_command_line.specs.CommandLine.{ParsesTo, IsOrderOf}
 use Rattle.daide_command_line.specs.declared.arguments.RunOrder.{RunOrder}
 use Rattle.daide_run.specs.declared.running.RunFault.{RunFault}
-use Rattle.daide_tools.specs.Controlling.{IsAnswerPrinted}
+use Rattle.daide_tools.specs.Controlling.{StatusRuns}
 use Rattle.daide_tools.specs.Endings.{ShowRuns, CheckRuns, FrameRuns, SettingsRuns}
 use Rattle.daide_tools.specs.Opened.{IsTextAt}
 
@@ -45,7 +45,7 @@ module _ {F : Type 0} (Opens : List ℕ → Result F IoError → Type 0) (remain
   -- The end of an order, by the bytes of standard input and by the rest of them that is unread.
   abbrev pub OrderEnds : Order → Option (List ℕ) → Option (List ℕ) → Option (List ℕ) → Option (List ℕ) → ℕ → Type 0
   OrderEnds (Show order) known rest old new status = ShowRuns Opens remaining read refused write order known old new status
-  OrderEnds (Check order) known rest old new status = CheckRuns Opens remaining order known rest old new status
+  OrderEnds (Check order) known rest old new status = CheckRuns Opens remaining read write order known rest old new status
   OrderEnds (Transcript order) known rest old new status = status ≤ 1
   OrderEnds (Frame order) known rest old new status = FrameRuns Opens remaining read refused write order known old new status
   OrderEnds (Settings order) known rest old new status =
@@ -53,7 +53,7 @@ module _ {F : Type 0} (Opens : List ℕ → Result F IoError → Type 0) (remain
   OrderEnds (Run order) known rest old new status = RunOrderEnds Opens remaining Runs order old new status
   OrderEnds BadSide known rest old new status = (status ≡ 2) × (new ≡ old)
   OrderEnds BadLevel known rest old new status = (status ≡ 2) × (new ≡ old)
-  OrderEnds (Status order) known rest old new status = (status ≤ 1) × (status ≡ 0 → IsAnswerPrinted old new)
+  OrderEnds (Status order) known rest old new status = (status ≤ 1) × StatusRuns write order old new status
   OrderEnds (Stop order) known rest old new status = (status ≤ 1) × (new ≡ old)
   OrderEnds BadFormat known rest old new status = (status ≡ 2) × (new ≡ old)
   OrderEnds BadMessageFormat known rest old new status = (status ≡ 2) × (new ≡ old)

@@ -124,12 +124,13 @@ fn carry_out<R: AllocGlobal + FileOpener + Clock + Net, I: Source, O: Sink, E: S
 /// `bounded`: the status is one of the four of `faults`.
 ///
 /// `answered`: what the program does, its status and its output are those of the order that the words give
-/// (`OrderEnds`). For `show`, `check` and `frame` the order says what they write of standard input, for `check FILE` and
-/// `settings FILE` what they write of the file that was opened by that name. `run` runs the text of the file that was opened
-/// by its name, with the folder of `--record`, where each session has its record, or standard error a notice (`run_text`).
-/// `status` returns 0 only if it printed an answer. A failed write ends `show`, `frame` and `settings` only if a write
-/// failed, and a failed read of standard input `show` and `frame` only if a read failed. Words that are not understood
-/// return 2 and write nothing to the output. Help and version return 0 or 1, and refused memory returns 1 (`UsageEnds`).
+/// (`OrderEnds`). For `show`, `check` and `frame` the order says what they write of standard input, for `check FILE..` and
+/// `settings FILE` what they write of the files that were opened by these names. `run` runs the text of the file that was
+/// opened by its name, with the folder of `--record`, where each session has its record, or standard error a notice
+/// (`run_text`). `status` prints the answers of the runs in the order of their files. A failed write ends `show`, `check`,
+/// `frame`, `settings` and `status` only if a write failed, and a failed read of standard input `show`, `check` and `frame`
+/// only if a read failed. Words that are not understood return 2 and write nothing to the output. Help and version return 0 or
+/// 1, and refused memory returns 1 (`UsageEnds`).
 ///
 /// Premise: no word begins with a hyphen and a digit. With such a word `frame` takes negative numbers, and `clap`'s
 /// contracts say nothing of that; then the program ends as some order does.

@@ -1,10 +1,10 @@
 -- The end of a request for a status, and of several.
-use Rattle.std.proofs.Common.{◌<◌, ◌≡◌, ◌≢◌, ◌≤◌, ◌⊎◌, ◌++◌, ℕ, max, List, [], ◌∷◌, length, map, Option, Result, Ok, Err, OnOk, IfSome, subst, refl, inl, inr, ◌∙◌, Bor, Bool, nat_lt, arith, ap, sym}
+use Rattle.std.proofs.Common.{◌<◌, ◌≡◌, ◌≢◌, ◌≤◌, ◌⊎◌, ◌++◌, ℕ, List, [], ◌∷◌, length, map, Option, Result, Ok, Err, OnOk, IfSome, subst, refl, ◌∙◌, Bor, Bool, nat_lt, arith, ap, sym}
 use Rattle.std.proofs.lemmas.List.{length-map}
 use Rattle.std.specs.Io.KnownBytes.{Appends}
 use Rattle.daide_status.specs.declared.request.ControlRequest.{ControlRequest}
 use Rattle.daide_status.specs.declared.request.Format.{Format}
-use Rattle.daide_tools.specs.Controlling.{AnswersOver, AreAnswersAfter, EndsStatus, EndsStatuses, IsAnswerAfter, IsAnswerPrinted, StatusEnds, request_line, longest_answer, title_for}
+use Rattle.daide_tools.specs.Controlling.{AnswersOver, EndsStatuses, StatusEnds, request_line, longest_answer, title_for}
 
 -- what was read after the request was sent, and was printed after a title, is the answer
 pub answered : {S E : Type 0} (contents remaining : S → Option (List ℕ)) (request : ControlRequest) (stream sent : S)
@@ -24,41 +24,6 @@ answered contents remaining request stream sent title answer shown old new (Ok d
   whole = whole;
 }
 answered contents remaining request stream sent title answer shown old new (Err fault) same asked few whole some printed = tt
-
--- if the status of all is 0, that of each is
-no_earlier : (a b : ℕ) → max a b ≡ 0 → a ≡ 0
-no_earlier a b none = omega (arith, none)
-
-no_later : (a b : ℕ) → max a b ≡ 0 → b ≡ 0
-no_later a b none = omega (arith, none)
-
-before_is_clean : (titles : List (List ℕ)) (old new : Option (List ℕ)) (before status : ℕ) →
-    EndsStatuses titles old new before status → status ≡ 0 → before ≡ 0
-before_is_clean [] old new before status h clean = omega (arith, h.1, clean)
-before_is_clean (title ∷ titles) old new before status h clean =
-    no_earlier before h.1 (before_is_clean titles h.0 new _ status h.3 clean)
-
-answer_of_clean : (title : List ℕ) (old new : Option (List ℕ)) (status : ℕ) → EndsStatus title old new status → status ≡ 0 →
-    IsAnswerAfter title old new
-answer_of_clean title old new status (inl h) clean = h.1
-answer_of_clean title old new status (inr h) clean = absurd (omega (arith, h.0, clean))
-
-answers_of_clean : (titles : List (List ℕ)) (old new : Option (List ℕ)) (before status : ℕ) →
-    EndsStatuses titles old new before status → status ≡ 0 → AreAnswersAfter titles old new
-answers_of_clean [] old new before status h clean = h.0
-answers_of_clean (title ∷ titles) old new before status h clean = (
-  h.0,
-  answer_of_clean title old h.0 h.1 h.2 (no_later before h.1 (before_is_clean titles h.0 new _ status h.3 clean)),
-  answers_of_clean titles h.0 new _ status h.3 clean,
-)
-
--- a status of 0 has an answer at least
-pub printed_if_clean : (write : Type 0) (format : Format) (names : List (List ℕ)) (old new : Option (List ℕ)) (status : ℕ) →
-    StatusEnds write format names old new status → status ≡ 0 → IsAnswerPrinted old new
-printed_if_clean write format [] old new status h clean = absurd (omega (arith, h.0, clean))
-printed_if_clean write format (name ∷ names) old new status (inl h) clean =
-    (_, _, answers_of_clean (map (title_for (nat_lt 1 (length (name ∷ names))) format) (name ∷ names)) old new 0 status h clean)
-printed_if_clean write format (name ∷ names) old new status (inr h) clean = absurd (omega (arith, h.1, clean))
 
 -- the status of no runs
 pub none_ended : (title : List ℕ → List ℕ) (rest : List (Bor (List ℕ))) (known : Option (List ℕ)) (status : ℕ) →

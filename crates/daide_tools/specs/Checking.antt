@@ -1,6 +1,6 @@
 -- The end of `check`: the reports of logs, the table after several, and what is said of their faults. (own)
 use Rattle.std.specs.Prelude.{◌≡◌, ◌⊎◌, ⊤, ℕ, ◌==◌, ◌&&◌, ◌||◌, max, Bool, true, false, if◌then◌else◌}
-use Rattle.std.specs.Prelude.{List, [], ◌∷◌, ◌++◌, map, codes, Option, Some, None, Result, Ok, Err}
+use Rattle.std.specs.Prelude.{List, [], ◌∷◌, ◌++◌, map, codes, Option, Some, None, Result, Ok, Err, IfErr}
 use Rattle.std.specs.Char.{is_ascii_control}
 use Rattle.std.specs.Fmt.{decimal}
 use Rattle.std.specs.Io.KnownBytes.{Appends}
@@ -110,9 +110,10 @@ abbrev pub SaysOfNamed : Type 0 → Type 0 → Type 0 → LogSaying
 SaysOfNamed read write unsaid label name result old new =
     SaysResult (name ≡ standard_input → read) write unsaid label result old new
 
--- anything is said
-abbrev pub SaysAnything : LogSaying
-SaysAnything label name result old new = ⊤
+-- of standard error nothing is said, but the fault has its cause
+abbrev pub HasCheckCause : Type 0 → Type 0 → LogSaying
+HasCheckCause read write label name result old new =
+    IfErr result (IsCheckCause (name ≡ standard_input → read) write)
 
 -- the report of a log alone, and what is said of its fault
 abbrev pub ChecksRead : Type 0 → Type 0 → Type 0 → Bool → Option (List ℕ) → Option (List ℕ) → Option (List ℕ) →

@@ -1,6 +1,7 @@
 -- What the commands `status` and `stop` send to a run. (own)
-use Rattle.std.specs.Prelude.{◌≡◌, ◌≢◌, ◌≤◌, ◌⊎◌, ℕ, ◌++◌, max, nat_lt, Bool, true, false, List, [], ◌∷◌, length, map, Option, Some, None, IfSome}
+use Rattle.std.specs.Prelude.{◌≡◌, ◌≢◌, ◌≤◌, ◌⊎◌, ℕ, ◌++◌, max, nat_lt, Bool, true, false, List, [], ◌∷◌, length, map, Option, Some, None, option_map, unwrap_or, IfSome}
 use Rattle.std.specs.Io.KnownBytes.{Appends}
+use Rattle.daide_command_line.specs.declared.arguments.StatusOrder.{StatusOrder}
 use Rattle.daide_status.specs.declared.request.ControlRequest.{ControlRequest}
 use Rattle.daide_status.specs.declared.request.ControlRequest.TheVariants.{Stop, StopNow}
 use Rattle.daide_status.specs.declared.request.Format.{Format}
@@ -30,16 +31,6 @@ pub record IsAnswerAfter (title : List ℕ) (old new : Option (List ℕ)) : Type
   pub some : answer ≢ []
   pub few : length answer ≤ longest_answer
   pub printed : Appends old new (title ++ answer)
-
--- an answer after each of these titles
-abbrev pub AreAnswersAfter : List (List ℕ) → Option (List ℕ) → Option (List ℕ) → Type 0
-AreAnswersAfter [] old new = new ≡ old
-AreAnswersAfter (title ∷ titles) old new =
-    (mid : Option (List ℕ)) × IsAnswerAfter title old mid × AreAnswersAfter titles mid new
-
--- an answer at least
-abbrev pub IsAnswerPrinted : Option (List ℕ) → Option (List ℕ) → Type 0
-IsAnswerPrinted old new = (title : List ℕ) × (titles : List (List ℕ)) × AreAnswersAfter (title ∷ titles) old new
 
 -- the title of the answer for the file of this name: as a comment before a table of several, and none otherwise
 abbrev pub title_of : Option (List ℕ) → List ℕ
@@ -86,6 +77,11 @@ StatusEnds write format [] old new status = (status ≡ 1) × (new ≡ old)
 StatusEnds write format (name ∷ names) old new status =
     EndsStatuses (map (title_for (nat_lt 1 (length (name ∷ names))) format) (name ∷ names)) old new 0 status
     ⊎ (write × (status ≡ 1))
+
+-- the same for an order
+abbrev pub StatusRuns : Type 0 → StatusOrder → Option (List ℕ) → Option (List ℕ) → ℕ → Type 0
+StatusRuns write order old new status = StatusEnds write order.format
+    (unwrap_or (option_map (λ names. map (λ name. name.now) names.now) order.settings) []) old new status
 
 -- The streams by which a request is made: what was written to one, and what is still to be read from it.
 module _ {S : Type 0} (contents remaining : S → Option (List ℕ)) (request : ControlRequest) (stream : S) where

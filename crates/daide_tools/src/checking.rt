@@ -161,8 +161,8 @@ pub fn run_check<R: AllocGlobal + FileOpener, I: Source, O: Sink, E: Sink>(
         (option_map (λ files. map (λ file. file.now) files.now) order.entry.files) (I.remaining input.old)
         (I.remaining input.new) (O.contents output.old) (O.contents output.new) (E.contents errors.old)
         (E.contents errors.new)) }
-    ensures reported { IfOk result (CheckRuns R.Opens R.File.remaining order.entry (I.remaining input.old)
-        (I.remaining input.new) (O.contents output.old) (O.contents output.new)) }
+    ensures reported { IfOk result (CheckRuns R.Opens R.File.remaining (HasFailed I.Fails) (HasFailed O.Fails) order.entry
+        (I.remaining input.old) (I.remaining input.new) (O.contents output.old) (O.contents output.new)) }
     ensures unsaid { OnErr result (HasFailed E.Fails) }
 {
     let CheckOrder {

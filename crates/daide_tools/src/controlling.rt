@@ -3,10 +3,10 @@
 //! A request is one line, and its answer is what comes until the end of the stream. The operating system decides who
 //! listens at the path, so the contracts are about any streams.
 
-ghost use Rattle.std.specs.Prelude.{◌≡◌, ◌≢◌, ◌≤◌, ◌++◌, [], length, map, option_map, unwrap_or, IfOk, IfErr, IfSome, OnOk, OnErr};
+ghost use Rattle.std.specs.Prelude.{◌≡◌, ◌≢◌, ◌≤◌, ◌++◌, [], length, map, option_map, IfOk, IfErr, IfSome, OnOk, OnErr};
 ghost use Rattle.std.specs.Io.KnownBytes.{Appends};
 ghost use Rattle.daide_causes.specs.Causes.{HasFailed};
-ghost use Rattle.daide_tools.specs.Controlling.{AnswersOver, EndsAfter, EndsStatusOr, IsAnswerAfter, IsAnswerPrinted, IsUnanswered, StatusEnds, longest_answer, request_line, stop_request, title_for, title_of};
+ghost use Rattle.daide_tools.specs.Controlling.{AnswersOver, EndsAfter, EndsStatusOr, IsAnswerAfter, IsUnanswered, StatusEnds, StatusRuns, longest_answer, request_line, stop_request, title_for, title_of};
 
 use crate::faults::{CLEAN, FAULT, print_fault};
 use crate::opening::{FileOpener, connect};
@@ -387,8 +387,6 @@ fn status_of_each<R: AllocGlobal + FileOpener + Clock + Net, O: Sink, E: Sink>(
 ///
 /// `ended`: the answers are printed in the order of the files, each table of several after the name of its file. For a run
 /// without an answer nothing is printed, and the status is 1. After a failed write nothing more is said.
-///
-/// `printed`: status 0 means that there was an answer at least.
 pub fn run_status<R: AllocGlobal + FileOpener + Clock + Net, O: Sink, E: Sink>(
     rt: &R,
     order: StatusOrder<'_, '_>,
@@ -396,11 +394,7 @@ pub fn run_status<R: AllocGlobal + FileOpener + Clock + Net, O: Sink, E: Sink>(
     errors: &mut E,
 ) -> io::Result<u8>
     ensures bounded { IfOk result (λ status. status ≤ FAULT) }
-    ensures ended { IfOk result (StatusEnds (HasFailed O.Fails) order.entry.format
-        (unwrap_or (option_map (λ names. map (λ name. name.now) names.now) order.entry.settings) [])
-        (O.contents output.old) (O.contents output.new)) }
-    ensures printed { IfOk result (λ status. status ≡ CLEAN →
-        IsAnswerPrinted (O.contents output.old) (O.contents output.new)) }
+    ensures ended { IfOk result (StatusRuns (HasFailed O.Fails) order.entry (O.contents output.old) (O.contents output.new)) }
 {
     match order.settings {
         Some(names) => status_of_each(rt, names, order.format, output, errors),
