@@ -104,9 +104,9 @@ impl<'w, N: Network, R: AllocGlobal + Files, C: Clock, E: NoticeLog + Sink + Dro
     ghost transition = { λ old call new. RunEvolves N.transition N.Connection.to_give N.Connection.taken
         N.Connection.calls (λ ports. ports.ports)
         (run_state (old.sockets.now.poller.network, old.sockets.now.poller.table) (old.sockets.now.idle_time, old.sockets.now.stall_time)
-        old.sockets.now.acceptor old.sockets.now.arrivals.items old.sockets.now.closings) call
+        old.sockets.now.acceptor old.sockets.now.arrivals.items old.sockets.now.closings old.sockets.now.control) call
         (run_state (new.sockets.now.poller.network, new.sockets.now.poller.table) (new.sockets.now.idle_time, new.sockets.now.stall_time)
-        new.sockets.now.acceptor new.sockets.now.arrivals.items new.sockets.now.closings)
+        new.sockets.now.acceptor new.sockets.now.arrivals.items new.sockets.now.closings new.sockets.now.control)
         × CallRecords (record_events ⟦<SessionFile<R::File> as Write>⟧.contents ⟦<SessionFile<R::File> as Sink>⟧.Fails
         E.Reported) (folder_head old.folder) call
         × (new.folder ≡ old.folder) };
@@ -143,7 +143,8 @@ impl<'w, N: Network, R: AllocGlobal + Files, C: Clock, E: NoticeLog + Sink + Dro
         ports: &Recording<SocketPorts<'w, N::Connection>, SessionFile<R::File>>,
     ) -> bool {
         let number = number_of(ports);
-        self.broken.report((place, number), ports, &mut self.sockets.errors);
+        let errors = &mut self.sockets.errors;
+        self.broken.report((place, number), ports, errors);
         self.sockets.rest(place, ports.ports())
     }
 

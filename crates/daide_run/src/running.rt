@@ -96,7 +96,7 @@ fn serve_opened<
         (folder_head folder.entry) settings.now
         (HasFailed O.Fails) (O.contents output.old) (O.contents output.new)
         (run_state (sockets.old.poller.network, sockets.old.poller.table) (sockets.old.idle_time, sockets.old.stall_time)
-        sockets.old.acceptor sockets.old.arrivals.items sockets.old.closings) result }
+        sockets.old.acceptor sockets.old.arrivals.items sockets.old.closings sockets.old.control) result }
 {
     let mut system = RecordedSockets::new(sockets, folder, rt);
     let served = serve_on(rt.alloc(), settings, &mut system, output);

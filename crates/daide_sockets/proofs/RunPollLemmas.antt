@@ -7,11 +7,19 @@ use Rattle.std.specs.declared.time.Instant.{Instant}
 use Rattle.daide_frame.specs.declared.side.Side.{Side}
 use Rattle.daide_frame.specs.declared.side.Side.TheVariants.{Bot, Server}
 use Rattle.daide_io.specs.Network.{NetworkCall}
+use Rattle.daide_io.specs.Streams.{StreamCall}
+use Rattle.daide_io.specs.declared.system.Orders.{Orders}
+use Rattle.daide_status.specs.declared.snapshot.RunStatus.{RunStatus}
+use Rattle.daide_sockets.specs.declared.admission.Acceptor.{Acceptor}
 use Rattle.daide_io.specs.ReadyQueue.{is_among, occurrences_of, is_same, one_if}
 use Rattle.daide_io.specs.declared.network.SocketEvent.{SocketEvent}
 use Rattle.daide_sockets.specs.Control.{has_control_work, control_due}
-use Rattle.daide_sockets.specs.ControlSlots.{IsControlRow, has_free, places, arming_control, arming_listener, arming_places}
-use Rattle.daide_sockets.specs.KeptRows.{ChangesRows}
+use Rattle.daide_sockets.specs.Accepting.{ClosesOrNot, round_begun}
+use Rattle.daide_sockets.specs.ControlSlots.{BeginsRound, IsControlRow, has_free, places, arming_control, arming_listener, arming_places}
+use Rattle.daide_sockets.specs.KeptRows.{ChangesRows, IsFixedRow, KeepsReportsOf}
+use Rattle.daide_sockets.specs.Lingering.{ClosingList}
+use Rattle.daide_sockets.specs.Pairing.{Arriving}
+use Rattle.daide_sockets.specs.Scheduling.{BringsOrders, IsStatusOf, RunState, run_state}
 use Rattle.daide_sockets.specs.Rows.{AreRowsOf, KeepsClosingRows, taken_at}
 use Rattle.daide_sockets.specs.Table.{Table, IsPollTime, PollsOnce, changed, deadline_at, deadline_in, first_closing, key_of, latest, listener_key}
 use Rattle.daide_sockets.specs.Table.{merged, report_at, report_of, row_at, disarmed, arming, with_event, with_events}
@@ -121,7 +129,8 @@ among_last place other xs same =
     let own : is_same other place ≡ is_same place place = ap (λ (k : ℕ). is_same k place) same in
     grind (arith, all, one, own)
 
-module _ {N C S : Type 0} (transition : N → NetworkCall C → N → Type 0) (time : Option Duration) (woken more : List ℕ)
+module _ {N S : Type 0} (transition : N → NetworkCall S → N → Type 0) (to_give taken : S → Option (List ℕ))
+    (calls : S → Option (List StreamCall)) (time : Option Duration) (woken more : List ℕ)
     (network polled_network new_network : N) (before armed polled first second third last : Table) (given left : List ℕ)
     (control : Control S) (same_armed : IsArmed before armed)
     (polls : PollsPlaces transition time woken network armed polled_network polled) (forgets : first ≡ disarmed polled)
@@ -251,6 +260,47 @@ module _ {N C S : Type 0} (transition : N → NetworkCall C → N → Type 0) (t
               ∙ ap (λ (r : Option Instant). is_past r (deadline_at polled place)) last_reading ∙ asleep.1,
         );
   }
+
+  -- what was reported beside the places is in their rows as the control socket begins its round
+  fixed_kept : AreRowsOf before given → KeepsReportsOf (IsFixedRow before) reported second
+  fixed_kept rows key fixed =
+      let below : key < first_closing first =
+      let same = ap length first_deadlines ∙ count in let lt = fixed.1 in omega (arith, lt, same) in
+      ap (λ (r : Row). r.report) (advances.others (first_holds rows) key below ∙ ap (λ (r : List Row). row_at r key) first_rows)
+
+  -- a round of the control socket by what the poll reported, and after it the listener for bots is closed, or no call is made
+  pub orders_run : (times : Option Duration × Option Duration) (acceptor tidied : Acceptor)
+      (arrivals : List (Option (Arriving S))) (closing : ClosingList S) (own : Control S) (new : RunState N S) (result : Orders)
+      (heard : N) (run : RunStatus) → AreRowsOf before given → tidied ≡ round_begun first.reading acceptor →
+      IsStatusOf (run_state (network, second) times tidied arrivals closing own) run →
+      BeginsRound transition to_give taken calls run second polled_network own result heard new.control →
+      ClosesOrNot transition heard new.network →
+      BringsOrders transition to_give taken calls (run_state (network, before) times acceptor arrivals closing own) result new
+  orders_run times acceptor tidied arrivals closing own new result heard run rows began status round closes =
+      let same = ap (λ (t : Table). t.reading) forgets ∙ ap (λ (t : Table). t.reading) polled_is ∙ reported_reading in
+      let tidied_is = began ∙ ap (λ (reading : Option Instant). round_begun reading acceptor) same in record {
+        time = time;
+        polled = polled_network;
+        reported = reported;
+        polls = record {
+          socket_events = socket_events;
+          polled = polls.polls.polled;
+          reading = polls.polls.reading;
+          polls = polls.polls.polls;
+          reads = polls.polls.reads;
+          table = refl;
+        };
+        table = second;
+        reading = ap (λ (t : Table). t.reading) advances.same ∙ same;
+        places = second_count;
+        reports = fixed_kept rows;
+        run = run;
+        status = subst (λ (a : Acceptor). IsStatusOf (run_state (network, second) times a arrivals closing own) run) tidied_is
+            status;
+        heard = heard;
+        round = round;
+        closes = closes;
+      }
 
   -- the poll of a run: the places stay, and the clock is not read again; the rows stay those of closing streams
   pub polls_run : (others : List (Bool × Option Instant)) (may_block : Bool) →

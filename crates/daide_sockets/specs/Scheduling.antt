@@ -1,5 +1,5 @@
 -- What the sockets of a run schedule: the timeouts with which sessions begin, accepts, and what a poll watches. (own)
-use Rattle.std.specs.Prelude.{◌≡◌, ◌≢◌, ℕ, ◌<◌, Bool, true, false, List, length, Option, Some, None}
+use Rattle.std.specs.Prelude.{◌≡◌, ◌≢◌, ℕ, ◌<◌, ◌&&◌, nat_le, Bool, true, false, List, length, Option, Some, None}
 use Rattle.std.specs.declared.net.socket_addr.SocketAddr.{SocketAddr}
 use Rattle.std.specs.declared.time.Duration.{Duration}
 use Rattle.std.specs.declared.time.Instant.{Instant}
@@ -8,22 +8,29 @@ use Rattle.daide_io.specs.Network.{NetworkCall, ReadsClock, Listens, ListensForC
 use Rattle.daide_io.specs.Streams.{StreamCall}
 use Rattle.daide_io.specs.System.{SystemCall, Polls, Shows, Accepts, Connects, BeginsTurn, Rests, Retires, Notifies}
 use Rattle.daide_io.specs.declared.system.Connect.TheVariants.{Ready, Failed, Pending}
+use Rattle.daide_io.specs.declared.system.Orders.{Orders}
 use Rattle.daide_buffered_io.specs.Buffers.{Buffer}
+use Rattle.daide_status.specs.declared.snapshot.RunStatus.{RunStatus}
+use Rattle.daide_status.specs.declared.snapshot.SessionRow.{SessionRow}
 use Rattle.daide_sockets.specs.declared.admission.Acceptor.{Acceptor}
+use Rattle.daide_sockets.specs.declared.control.Control.{Control}
 use Rattle.daide_sockets.specs.declared.ports.SocketPorts.{SocketPorts}
-use Rattle.daide_sockets.specs.Accepting.{is_bot_due, may_connect, round_begun, shut_if, AcceptsThenConnects}
+use Rattle.daide_sockets.specs.Accepting.{is_bot_due, may_connect, round_begun, shut_if, AcceptsThenConnects, ClosesOrNot}
+use Rattle.daide_sockets.specs.ControlSlots.{BeginsRound, Each, PlaceShows, places}
 use Rattle.daide_sockets.specs.PollTimes.{listener_armed, others_armed}
 use Rattle.daide_sockets.specs.Lingering.{ClosingList, LooksAround, in_pass}
-use Rattle.daide_sockets.specs.Pairing.{Arriving, Paired, RunSockets, is_vacant, arrival_at, ClosesAt, ClosesBothAt, Transits}
-use Rattle.daide_sockets.specs.KeptRows.{KeepsBeside}
+use Rattle.daide_sockets.specs.Pairing.{Arriving, Paired, RunSockets, is_vacant, arrival_at, pending_connects, ClosesAt, ClosesBothAt, Transits}
+use Rattle.daide_sockets.specs.KeptRows.{IsFixedRow, KeepsBeside, KeepsReportsOf}
 use Rattle.daide_sockets.specs.Rows.{AreRowsOf, closing_keys}
-use Rattle.daide_sockets.specs.Table.{Table, control_key, deadline_at, key_of, listener_key}
+use Rattle.daide_sockets.specs.Snapshot.{seconds_between, or_zero, IsRunStatus, IsSessionRow}
+use Rattle.daide_sockets.specs.Table.{Table, PollsOnce, control_key, deadline_at, key_of, listener_key}
 use Rattle.daide_sockets.specs.Clock.{IsNoTime, is_past}
 use Rattle.daide_sockets.specs.Timers.{SessionTimers, BeginsAt, timers_of}
 use Rattle.daide_sockets.specs.Wakeups.{Wakes, PollsForPlaces}
 
 -- The sockets of a run: its network and its table; the timeouts of each peer, of its silence and of a stall, none for
--- never; the listener; at each place the bot whose connect is pending, if there is one; and the closing streams.
+-- never; the listener; at each place the bot whose connect is pending, if there is one; the closing streams; and the control
+-- socket.
 pub record RunState (N S : Type 0) : Type 0 where
   pub network : N
   pub table : Table
@@ -31,16 +38,18 @@ pub record RunState (N S : Type 0) : Type 0 where
   pub acceptor : Acceptor
   pub arrivals : List (Option (Arriving S))
   pub closing : ClosingList S
+  pub control : Control S
 
 abbrev pub run_state : {N S : Type 0} → N × Table → Option Duration × Option Duration → Acceptor →
-    List (Option (Arriving S)) → ClosingList S → RunState N S
-run_state polled times acceptor arrivals closing = record {
+    List (Option (Arriving S)) → ClosingList S → Control S → RunState N S
+run_state polled times acceptor arrivals closing control = record {
   network = polled.0;
   table = polled.1;
   times = times;
   acceptor = acceptor;
   arrivals = arrivals;
   closing = closing;
+  control = control;
 }
 
 -- The network of a run begins: its clock is read, then its listener for bots is followed, and then that for control
@@ -156,6 +165,50 @@ pub record AwaitsBots {N C S : Type 0} (transition : N → NetworkCall C → N �
   pub polls : PollsForRun transition may_block woken old new
   pub awaits : is_bot_due old.table old.acceptor ≡ true → IsNoTime polls.time
 
+-- ---- orders
+
+-- the status of a run, some of whose bots are there, and some of which had no server
+abbrev pub IsStatusOf : {N S : Type 0} → RunState N S → RunStatus → Type 0
+IsStatusOf state run = (present unreached most : ℕ) × IsRunStatus state.acceptor.came present (pending_connects state.arrivals)
+    unreached (nat_le most present && is_bot_due state.table state.acceptor) state.control.stops_accepting
+    (or_zero (seconds_between state.control.started_at state.table.reading)) run
+
+-- The orders of a poll. It polled the network once, and read the clock. By what was reported of the control socket then, and by
+-- that reading, the control socket began its round: each order is what a connection requested. At last the network closed the
+-- listener for bots, or made no call.
+pub record BringsOrders {N S : Type 0} (transition : N → NetworkCall S → N → Type 0) (to_give taken : S → Option (List ℕ))
+    (calls : S → Option (List StreamCall)) (old : RunState N S) (orders : Orders) (new : RunState N S) : Type 0 where
+  pub time : Option Duration
+  pub polled : N
+  pub reported : Table
+  pub polls : PollsOnce transition time old.network old.table polled reported
+  pub table : Table
+  pub reading : table.reading ≡ reported.reading
+  pub places : length table.deadlines ≡ length old.table.deadlines
+  pub reports : KeepsReportsOf (IsFixedRow old.table) reported table
+  pub run : RunStatus
+  pub status : IsStatusOf (record old { table = table; acceptor = round_begun reported.reading old.acceptor }) run
+  pub heard : N
+  pub round : BeginsRound transition to_give taken calls run table polled old.control orders heard new.control
+  pub closes : ClosesOrNot transition heard new.network
+
+-- What a system call does to the control socket. A poll brings the orders of its connections. The row of a session is shown to
+-- each connection that gathers a status. No other call changes it. `ports_in` is the content of ports.
+abbrev pub Controls : {N P S : Type 0} → (N → NetworkCall S → N → Type 0) → (S → Option (List ℕ)) → (S → Option (List ℕ)) →
+    (S → Option (List StreamCall)) → (P → SocketPorts S) → RunState N S → SystemCall P → RunState N S → Type 0
+Controls transition to_give taken calls ports_in old (Polls may_block woken orders) new =
+    BringsOrders transition to_give taken calls old orders new
+Controls transition to_give taken calls ports_in old (Shows ports status) new = (row : SessionRow)
+    × IsSessionRow old.table.reading (ports_in ports).identity (ports_in ports).sides status row
+    × Each (PlaceShows row) (places old.control.slots) (places new.control.slots)
+    × (new.control ≡ record old.control { slots = new.control.slots })
+Controls transition to_give taken calls ports_in old (Accepts place came) new = new.control ≡ old.control
+Controls transition to_give taken calls ports_in old (Connects place connect) new = new.control ≡ old.control
+Controls transition to_give taken calls ports_in old (BeginsTurn place before after) new = new.control ≡ old.control
+Controls transition to_give taken calls ports_in old (Rests place ports rests) new = new.control ≡ old.control
+Controls transition to_give taken calls ports_in old (Retires place ports end) new = new.control ≡ old.control
+Controls transition to_give taken calls ports_in old (Notifies notice) new = new.control ≡ old.control
+
 -- ---- all of it
 
 -- each taken row is that of one closing stream, and each closing stream has a row of its own
@@ -164,9 +217,9 @@ HoldsRows state = AreRowsOf state.table (closing_keys state.closing.streams)
 
 -- All that a system call does to the sockets of a run whose closing streams hold their rows, as they do after it: to its
 -- bots and its closing streams (`Transits`), as far as a session's rest needs it (`Wakes`), what it schedules (`Schedules`),
--- to its closing streams by the clock (`ClosesByClock`), and what it keeps of the rows beside those of the places
--- (`KeepsBeside`). `ports_in` is the content of ports.
-abbrev pub RunEvolves : {N C P S : Type 0} → (N → NetworkCall C → N → Type 0) → (S → Option (List ℕ)) →
+-- to its closing streams by the clock (`ClosesByClock`), what it keeps of the rows beside those of the places (`KeepsBeside`),
+-- and to the control socket (`Controls`). `ports_in` is the content of ports.
+abbrev pub RunEvolves : {N P S : Type 0} → (N → NetworkCall S → N → Type 0) → (S → Option (List ℕ)) →
     (S → Option (List ℕ)) → (S → Option (List StreamCall)) → (P → SocketPorts S) → RunState N S → SystemCall P →
     RunState N S → Type 0
 RunEvolves transition to_give taken calls ports_in old call new = HoldsRows old → HoldsRows new
@@ -176,3 +229,4 @@ RunEvolves transition to_give taken calls ports_in old call new = HoldsRows old 
     × Schedules transition (λ ports. timers_of (ports_in ports)) old call new
     × ClosesByClock to_give taken calls (λ ports. pair_of (ports_in ports)) old call new
     × KeepsBeside old.table call new.table
+    × Controls transition to_give taken calls ports_in old call new

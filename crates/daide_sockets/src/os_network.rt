@@ -1,9 +1,16 @@
 //! The network of the operating system: `Network` over `mio` and `std`.
 //!
-//! No clause says what the system does, so this module is trusted. Each call passes on what it is given, and returns what
-//! the system returns. Nothing is decided here.
+//! A poll passes on each event that it received (`PassesOn`). Of the other calls no clause says what the system does, so this
+//! module is trusted. Each call passes on what it is given, and returns what the system returns. Nothing is decided here.
+
+ghost use Rattle.std.specs.Prelude.{◌≡◌, OnOk, OnErr, map};
+ghost use Rattle.mio.specs.Events.{items};
+ghost use Rattle.daide_causes.specs.Causes.{WasRefused};
+ghost use Rattle.daide_sockets.specs.OsEvents.{PassesOn, event_reported};
 
 use crate::connection::Connection;
+use daide_causes::Growth;
+use daide_frame::Memory;
 use daide_io::network::{ConnectReport, Network, SocketEvent};
 use mio::event::Event;
 use mio::net::{TcpListener, TcpStream, UnixListener};
@@ -41,7 +48,9 @@ pub enum NetworkError {
 }
 
 /// Returns what the system reports of one socket.
-fn socket_event(event: &Event) -> SocketEvent {
+fn socket_event(event: &Event) -> SocketEvent
+    ensures { result ≡ event_reported event.now }
+{
     let Token(key) = event.token();
     SocketEvent {
         key,
@@ -52,6 +61,21 @@ fn socket_event(event: &Event) -> SocketEvent {
         is_error: event.is_error(),
         is_priority: event.is_priority(),
     }
+}
+
+/// Replaces a list by the reports of these events, in their order. Fails if the list has no room and its growth is refused.
+fn pass_on<A: Growth>(
+    events: &[Event],
+    socket_events: &mut Vec<SocketEvent, A>,
+) -> Result<(), AllocError>
+    ensures all { OnOk result (socket_events.new.items ≡ map event_reported events.now) }
+    ensures refused { OnErr result (WasRefused A.Refuses) }
+{
+    socket_events.clear();
+    for event in events {
+        A::append(socket_events, &[socket_event(event)])?;
+    }
+    Ok(())
 }
 
 /// Turns off the delay of small writes. A connection that delays them is slower, but correct.
@@ -113,20 +137,17 @@ impl<'r, R: Clock + Net> OsNetwork<'r, R> {
 impl<R: Clock + Net> Network for OsNetwork<'_, R> {
     type Connection = Connection;
 
-    ghost transition = { λ _ _ _. Unit {0} };
+    ghost transition = { λ _ call new. PassesOn ⟦<Global as Memory>⟧.Refuses (items new.events) call };
 
     fn now(&mut self) -> Option<Instant> {
         Instant::now(self.runtime).ok()
     }
 
     fn poll(&mut self, timeout: Option<Duration>, socket_events: &mut Vec<SocketEvent>) {
-        socket_events.clear();
         // A failed poll has no events.
         let _ = self.poll.poll(&mut self.events, timeout);
-        for event in self.events.iter() {
-            // The caller has room for as many as a poll reports.
-            let _ = socket_events.push(socket_event(event));
-        }
+        // The caller has room for as many as a poll reports.
+        let _ = pass_on(self.events.iter().as_slice(), socket_events);
     }
 
     fn listen(&mut self, key: usize) -> bool {

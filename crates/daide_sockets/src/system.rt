@@ -379,19 +379,19 @@ impl<'w, N: Network, E: Write + Drop> System<SocketPorts<'w, N::Connection>> for
     ghost transition = { λ old call new. RunEvolves N.transition N.Connection.to_give N.Connection.taken N.Connection.calls
         (λ (ports : PortsOf N.Connection). ports)
         (run_state (old.poller.network, old.poller.table) (old.idle_time, old.stall_time) old.acceptor old.arrivals.items
-        old.closings) call
+        old.closings old.control) call
         (run_state (new.poller.network, new.poller.table) (new.idle_time, new.stall_time) new.acceptor new.arrivals.items
-        new.closings) };
+        new.closings new.control) };
 
     fn poll<A: Allocator>(&mut self, may_block: bool, ready: &mut ReadyQueue<A>) -> Orders
         ensures transition { (woken : List ℕ) × (ready.new ≡ woken_all woken ready.old)
             × RunEvolves N.transition N.Connection.to_give N.Connection.taken N.Connection.calls
             (λ (ports : PortsOf N.Connection). ports)
             (run_state (self.old.poller.network, self.old.poller.table) (self.old.idle_time, self.old.stall_time) self.old.acceptor
-            self.old.arrivals.items self.old.closings)
+            self.old.arrivals.items self.old.closings self.old.control)
             (Polls may_block woken result)
             (run_state (self.new.poller.network, self.new.poller.table) (self.new.idle_time, self.new.stall_time) self.new.acceptor
-            self.new.arrivals.items self.new.closings) }
+            self.new.arrivals.items self.new.closings self.new.control) }
         ensures stops { self.new.control.stops_now ≡ true → self.old.control.stops_now ≡ false → (woken : List ℕ)
             × (ready.new ≡ woken_all woken ready.old) × ((place : ℕ) →
             place < length self.new.poller.table.deadlines → is_among place woken ≡ true) }
@@ -425,9 +425,9 @@ impl<'w, N: Network, E: Write + Drop> System<SocketPorts<'w, N::Connection>> for
         ensures transition { RunEvolves N.transition N.Connection.to_give N.Connection.taken N.Connection.calls
             (λ (ports : PortsOf N.Connection). ports)
             (run_state (self.old.poller.network, self.old.poller.table) (self.old.idle_time, self.old.stall_time) self.old.acceptor
-            self.old.arrivals.items self.old.closings) (Shows ports.now status)
+            self.old.arrivals.items self.old.closings self.old.control) (Shows ports.now status)
             (run_state (self.new.poller.network, self.new.poller.table) (self.new.idle_time, self.new.stall_time) self.new.acceptor
-            self.new.arrivals.items self.new.closings) }
+            self.new.arrivals.items self.new.closings self.new.control) }
         ensures shows { (row : SessionRow) × IsSessionRow self.old.poller.table.reading ports.now.identity
             ports.now.sides status row
             × Each (PlaceShows row) (places self.old.control.slots) (places self.new.control.slots) }
@@ -443,9 +443,9 @@ impl<'w, N: Network, E: Write + Drop> System<SocketPorts<'w, N::Connection>> for
         ensures system { RunEvolves N.transition N.Connection.to_give N.Connection.taken N.Connection.calls
             (λ (ports : PortsOf N.Connection). ports)
             (run_state (self.old.poller.network, self.old.poller.table) (self.old.idle_time, self.old.stall_time) self.old.acceptor
-            self.old.arrivals.items self.old.closings) (BeginsTurn place ports.old ports.new)
+            self.old.arrivals.items self.old.closings self.old.control) (BeginsTurn place ports.old ports.new)
             (run_state (self.new.poller.network, self.new.poller.table) (self.new.idle_time, self.new.stall_time) self.new.acceptor
-            self.new.arrivals.items self.new.closings) }
+            self.new.arrivals.items self.new.closings self.new.control) }
         ensures silent { (ports.new.sides.bot.timed.is_silent ≡ ports.old.sides.bot.timed.is_silent)
             × (ports.new.sides.server.timed.is_silent ≡ ports.old.sides.server.timed.is_silent) }
         ensures gathering { (ports.new.sides.bot.is_gathering ≡ false) × (ports.new.sides.server.is_gathering ≡ false) }
@@ -469,10 +469,10 @@ impl<'w, N: Network, E: Write + Drop> System<SocketPorts<'w, N::Connection>> for
         ensures transition { RunEvolves N.transition N.Connection.to_give N.Connection.taken N.Connection.calls
             (λ (ports : PortsOf N.Connection). ports)
             (run_state (self.old.poller.network, self.old.poller.table) (self.old.idle_time, self.old.stall_time) self.old.acceptor
-            self.old.arrivals.items self.old.closings)
+            self.old.arrivals.items self.old.closings self.old.control)
             (Rests place ports.now result)
             (run_state (self.new.poller.network, self.new.poller.table) (self.new.idle_time, self.new.stall_time) self.new.acceptor
-            self.new.arrivals.items self.new.closings) }
+            self.new.arrivals.items self.new.closings self.new.control) }
         ensures same { self.new ≡ record self.old { poller = self.new.poller } }
     {
         if ports.may_go_on(place, &self.poller.table) {
@@ -498,9 +498,9 @@ impl<'w, N: Network, E: Write + Drop> System<SocketPorts<'w, N::Connection>> for
         ensures transition { RunEvolves N.transition N.Connection.to_give N.Connection.taken N.Connection.calls
             (λ (ports : PortsOf N.Connection). ports)
             (run_state (self.old.poller.network, self.old.poller.table) (self.old.idle_time, self.old.stall_time) self.old.acceptor
-            self.old.arrivals.items self.old.closings) (Accepts place result)
+            self.old.arrivals.items self.old.closings self.old.control) (Accepts place result)
             (run_state (self.new.poller.network, self.new.poller.table) (self.new.idle_time, self.new.stall_time) self.new.acceptor
-            self.new.arrivals.items self.new.closings) }
+            self.new.arrivals.items self.new.closings self.new.control) }
         ensures admitted { result ≡ true → (address : SocketAddr) × AdmitsBot N.transition self.old.acceptor.descriptors self.old.servers.now
             (self.old.allow.now, self.old.max_per_address) self.old.poller.table.reading place self.new.acceptor.came address
             (self.old.poller.network, self.old.arrivals.items, self.old.present)
@@ -544,9 +544,9 @@ impl<'w, N: Network, E: Write + Drop> System<SocketPorts<'w, N::Connection>> for
         ensures transition { RunEvolves N.transition N.Connection.to_give N.Connection.taken N.Connection.calls
             (λ (ports : PortsOf N.Connection). ports)
             (run_state (self.old.poller.network, self.old.poller.table) (self.old.idle_time, self.old.stall_time) self.old.acceptor
-            self.old.arrivals.items self.old.closings) (Connects place result)
+            self.old.arrivals.items self.old.closings self.old.control) (Connects place result)
             (run_state (self.new.poller.network, self.new.poller.table) (self.new.idle_time, self.new.stall_time) self.new.acceptor
-            self.new.arrivals.items self.new.closings) }
+            self.new.arrivals.items self.new.closings self.new.control) }
         ensures unreached { result ≡ Connect.Failed → self.old.control.stops_now ≡ false →
             (arrival : Arriving N.Connection) × (tried : N) × TakesOut self.old.arrivals.items place arrival self.new.arrivals.items
             × IsUnreached N.transition self.old.servers.now (key_of place Sides.Server) self.old.poller.table.reading arrival.gives_up arrival.tried
@@ -604,9 +604,9 @@ impl<'w, N: Network, E: Write + Drop> System<SocketPorts<'w, N::Connection>> for
         ensures transition { RunEvolves N.transition N.Connection.to_give N.Connection.taken N.Connection.calls
             (λ (ports : PortsOf N.Connection). ports)
             (run_state (self.old.poller.network, self.old.poller.table) (self.old.idle_time, self.old.stall_time) self.old.acceptor
-            self.old.arrivals.items self.old.closings) (Retires place ports.entry end)
+            self.old.arrivals.items self.old.closings self.old.control) (Retires place ports.entry end)
             (run_state (self.new.poller.network, self.new.poller.table) (self.new.idle_time, self.new.stall_time) self.new.acceptor
-            self.new.arrivals.items self.new.closings) }
+            self.new.arrivals.items self.new.closings self.new.control) }
         ensures closes { ClosesBothAt N.Connection.to_give N.Connection.taken N.Connection.calls
             self.old.poller.table.reading self.old.closings (pair_of ports.entry) self.new.closings }
         ensures present { self.new.present.bots.items ≡ without_bot ports.entry.identity.number self.old.present.bots.items }
@@ -634,9 +634,9 @@ impl<'w, N: Network, E: Write + Drop> System<SocketPorts<'w, N::Connection>> for
         ensures transition { RunEvolves N.transition N.Connection.to_give N.Connection.taken N.Connection.calls
             (λ (ports : PortsOf N.Connection). ports)
             (run_state (self.old.poller.network, self.old.poller.table) (self.old.idle_time, self.old.stall_time) self.old.acceptor
-            self.old.arrivals.items self.old.closings) (Notifies notice)
+            self.old.arrivals.items self.old.closings self.old.control) (Notifies notice)
             (run_state (self.new.poller.network, self.new.poller.table) (self.new.idle_time, self.new.stall_time) self.new.acceptor
-            self.new.arrivals.items self.new.closings) }
+            self.new.arrivals.items self.new.closings self.new.control) }
         ensures same { self.new ≡ record self.old { errors = self.new.errors } }
     {
         self.poller.table.is_bounded();

@@ -221,9 +221,9 @@ impl<'w, N: Network, E: Write + Drop> Sockets<'w, N, E> {
         ensures transition { RunEvolves N.transition N.Connection.to_give N.Connection.taken N.Connection.calls
             (λ (ports : PortsOf N.Connection). ports)
             (run_state (self.old.poller.network, self.old.poller.table) (self.old.idle_time, self.old.stall_time) self.old.acceptor
-            self.old.arrivals.items self.old.closings) (Accepts place result)
+            self.old.arrivals.items self.old.closings self.old.control) (Accepts place result)
             (run_state (self.new.poller.network, self.new.poller.table) (self.new.idle_time, self.new.stall_time) self.new.acceptor
-            self.new.arrivals.items self.new.closings) }
+            self.new.arrivals.items self.new.closings self.new.control) }
         ensures admitted { result ≡ true → (address : SocketAddr) × AdmitsBot N.transition self.old.acceptor.descriptors self.old.servers.now
             (self.old.allow.now, self.old.max_per_address) self.old.poller.table.reading place self.new.acceptor.came address
             (self.old.poller.network, self.old.arrivals.items, self.old.present)

@@ -26,6 +26,7 @@ returns-in_default-clause-transition g c =
       ),
       refl,
       accept_beside _ _ c.args.place asked.table,
+      refl,
     ))
 
 pub returns-clause-admitted : goal.returns-clause-admitted
@@ -56,4 +57,5 @@ returns-clause-transition g c =
       ),
       refl,
       accept_beside _ _ c.args.place asked.table,
+      refl,
     ))

@@ -24,4 +24,5 @@ returns-then-not-is_due-clause-transition g c = rw c.await_bots.ensures (λ held
   ),
   refl,
   λ key le. refl,
+  refl,
 ))

@@ -22,6 +22,7 @@ returns-then-stops_now-clause-system g c = rw c.stop.ensures (λ held. (
   ((refl, refl), refl),
   refl,
   turn_beside _ _ c.args.place c.begin_turn.ensures.takes.table,
+  refl,
 ))
 
 pub returns-else-stops_now-clause-system : goal.returns-else-stops_now-clause-system
@@ -38,4 +39,5 @@ returns-else-stops_now-clause-system g c = λ held. (
   ((refl, refl), refl),
   refl,
   turn_beside _ _ c.args.place c.begin_turn.ensures.takes.table,
+  refl,
 )

@@ -28,6 +28,7 @@ returns-in_default-clause-transition g c =
       (((refl, refl), refl), rests_unchanged c.args.self.now.arrivals.items c.args.self.now.poller.table c.args.place nothing.0),
       refl,
       λ key le. refl,
+      refl,
     ))
 
 -- sessions end now: the connect is given up
@@ -54,6 +55,7 @@ returns-then-stops_now-clause-transition g c =
       ((refl, refl), refl),
       (_, closes),
       failed_beside old old _ c.args.place _ _ _ lt refl (changes_none _ _ _ refl) rows held,
+      refl,
     ))
 
 pub returns-then-stops_now-clause-leaves : goal.returns-then-stops_now-clause-leaves
@@ -105,6 +107,7 @@ returns-then-advances-clause-transition g c =
       refl,
       λ row le. ap (λ (t : Table). report_at t row) c.rest.ensures
           ∙ connect_beside _ _ c.args.place _ lt key table row le,
+      refl,
     ))
 
 -- it is done: its ports begin
@@ -141,6 +144,7 @@ returns-in-Ok-clause-transition g c =
       (((refl, refl), refl), begins),
       refl,
       connect_beside _ _ c.args.place _ lt key table,
+      refl,
     ))
 
 pub returns-in-Ok-clause-connected : goal.returns-in-Ok-clause-connected
@@ -182,6 +186,7 @@ returns-in-Err-clause-transition g c =
       ((refl, refl), refl),
       (_, closes),
       failed_beside old mid _ c.args.place _ _ _ lt key table rows held,
+      refl,
     ))
 
 pub returns-in-Err-clause-leaves : goal.returns-in-Err-clause-leaves

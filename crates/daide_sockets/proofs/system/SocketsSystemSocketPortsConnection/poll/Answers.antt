@@ -10,7 +10,7 @@ use Rattle.daide_sockets.specs.Accepting.{shut_if}
 use Rattle.daide_sockets.specs.declared.admission.Acceptor.{Acceptor}
 use Rattle.daide_sockets.specs.declared.control.Control.{Control}
 use Rattle.daide_sockets.proofs.AcceptLemmas.{kept_came}
-use Rattle.daide_sockets.proofs.RunPollLemmas.{among_later, polls_run}
+use Rattle.daide_sockets.proofs.RunPollLemmas.{among_later, orders_run, polls_run}
 use Rattle.daide_sockets.proofs.system.SocketsSystemSocketPortsConnection.poll.Goals as goal
 
 pub returns-clause-transition : goal.returns-clause-transition
@@ -30,8 +30,9 @@ returns-clause-transition g c =
     let rows = rw (c.poll_places.ensures.same, c.note_capacity.ensures.same) at c.tidy.ensures.rows in
     let armed = c.take_orders-orders.ensures.armed in
     let goes = rw c.tidy.ensures.network at c.take_orders-orders.ensures.calls in
+    let asked = c.take_orders-orders.ensures.control in
     let more = c.wake_stopped.ensures in
-    let all = polls_run g.N.Network.transition polled.2 polled.0 more.0 old.poller.network c.poll_places.new.self.poller.network
+    let all = polls_run g.N.Network.transition g.N.Connection.Duplex.to_give g.N.Connection.Duplex.taken g.N.Connection.Duplex.calls polled.2 polled.0 more.0 old.poller.network c.poll_places.new.self.poller.network
     c.take_orders-orders.new.self.poller.network old.poller.table polled.4 polled.6 c.poll_places.new.self.poller.table
     c.tidy.new.self.poller.table armed.0 c.take_orders-orders.new.self.poller.table (closing_keys old.closings.streams)
     (closing_keys c.tidy.new.self.closings.streams) c.take_orders-orders.new.self.control asleep places polled.8 rows armed.1
@@ -57,6 +58,15 @@ returns-clause-transition g c =
         ),
         rw all.1 closing,
         tt,
+        orders_run g.N.Network.transition g.N.Connection.Duplex.to_give g.N.Connection.Duplex.taken g.N.Connection.Duplex.calls
+            polled.2 polled.0 more.0 old.poller.network c.poll_places.new.self.poller.network
+            c.take_orders-orders.new.self.poller.network old.poller.table polled.4 polled.6 c.poll_places.new.self.poller.table
+            c.tidy.new.self.poller.table armed.0 c.take_orders-orders.new.self.poller.table (closing_keys old.closings.streams)
+            (closing_keys c.tidy.new.self.closings.streams) c.take_orders-orders.new.self.control asleep places polled.8 rows
+            armed.1 armed.2 (old.idle_time, old.stall_time) old.acceptor c.tidy.new.self.acceptor old.arrivals.items old.closings
+            old.control _ c.take_orders-orders.result asked.2 asked.0 held acceptor
+            (_, _, _, rw (c.tidy.ensures.same, c.poll_places.ensures.same, c.note_capacity.ensures.same) at asked.1)
+            (rw (c.tidy.ensures.network, control) at asked.3) asked.4,
       ),
     )
 

@@ -21,4 +21,5 @@ returns-clause-transition g c = λ held. (
   ((refl, refl), refl),
   refl,
   ap (λ (t : Table). t.rows) c.rest.ensures,
+  refl,
 )

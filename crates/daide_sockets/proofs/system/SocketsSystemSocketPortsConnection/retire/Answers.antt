@@ -24,4 +24,5 @@ returns-clause-transition g c =
       ((refl, refl), refl),
       closes,
       λ lt. retire_beside _ _ c.args.place _ _ rows held lt,
+      refl,
     ))
