@@ -7,6 +7,7 @@ use Rattle.std.specs.Prelude.{◌&&◌, ◌||◌, not, slice_get}
 use Rattle.std.specs.declared.time.Instant.{Instant}
 use Rattle.daide_buffered_io.specs.declared.readiness.Readiness.{Readiness}
 use Rattle.daide_sockets.specs.declared.admission.Acceptor.{Acceptor}
+use Rattle.daide_sockets.specs.declared.admission.NoBot.TheVariants as NoBots
 use Rattle.daide_sockets.specs.declared.listener.Listener.{Listener}
 use Rattle.daide_sockets.specs.Accepting.{is_accept_made, is_accept_due, is_bot_due, accept_pause, connection_given, shut_if}
 use Rattle.daide_sockets.specs.Accepting.{AcceptsBeside, AcceptsOnce, AcceptsOneBot, BringsBot, BringsNoBot, FollowsAtMostOnce, FollowsAccepted, ConnectsOnce, ConnectsFrom}
@@ -119,20 +120,22 @@ module _ {N C : Type 0} (transition : N → NetworkCall C → N → Type 0) (cou
 
   module _ (may_come : SocketAddr → Bool) (old mid : N) where
     failed : (accepted : Result (C × SocketAddr) Error) → AcceptsBeside transition count old mid accepted →
-        None ≡ connection_given accepted → BringsNoBot transition count may_come old mid
+        None ≡ connection_given accepted →
+        BringsNoBot transition count may_come old mid NoBots.NoneCame
     failed (Ok came) call h = absurd (cc)
-    failed (Err error) call h = Fails error call
+    failed (Err error) call h = Fails error call refl
 
-    pub brings_none : AcceptsOnce transition count old mid None → BringsNoBot transition count may_come old mid
+    pub brings_none : AcceptsOnce transition count old mid None → BringsNoBot transition count may_come old mid NoBots.NoneCame
     brings_none once = failed once.accepted once.call once.given
 
     pub brings_declined : (came : C × SocketAddr) → AcceptsOnce transition count old mid (Some came) → may_come came.1 ≡ false →
-        BringsNoBot transition count may_come old mid
-    brings_declined came once declined = MayNotCome came (accepts came old mid once) declined
+        BringsNoBot transition count may_come old mid (NoBots.MayNotCome came.1)
+    brings_declined came once declined = MayNotCome came (accepts came old mid once) declined refl
 
     pub brings_refused : (came : C × SocketAddr) (new : N) (key : ℕ) (after : C) → AcceptsOnce transition count old mid (Some came) →
-        transition mid (Follows came.0 key false after) new → BringsNoBot transition count may_come old new
-    brings_refused came new key after once h = IsRefused came mid key after (accepts came old mid once) h
+        transition mid (Follows came.0 key false after) new →
+        BringsNoBot transition count may_come old new (NoBots.NotFollowed came.1)
+    brings_refused came new key after once h = IsRefused came mid key after (accepts came old mid once) h refl
 
 module _ {N C : Type 0} (transition : N → NetworkCall C → N → Type 0) where
   -- one more connect, to the next address

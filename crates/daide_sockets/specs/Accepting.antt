@@ -11,6 +11,8 @@ use Rattle.daide_io.specs.declared.network.ConnectReport.{ConnectReport}
 use Rattle.daide_io.specs.declared.network.ConnectStatus.TheVariants.{Connected}
 use Rattle.daide_buffered_io.specs.declared.readiness.Readiness.{Readiness}
 use Rattle.daide_sockets.specs.declared.admission.Acceptor.{Acceptor}
+use Rattle.daide_sockets.specs.declared.admission.NoBot.{NoBot}
+use Rattle.daide_sockets.specs.declared.admission.NoBot.TheVariants as NoBots
 use Rattle.daide_sockets.specs.declared.listener.Listener.{Listener}
 use Rattle.daide_sockets.specs.Table.{Table, listener_key, merged, report_at}
 use Rattle.daide_sockets.specs.Clock.{IsAfter, is_past}
@@ -183,14 +185,22 @@ pub record BringsBot {N C : Type 0} (transition : N → NetworkCall C → N → 
   pub follows : transition mid (Follows given key true connection) new
 
 -- Why a due accept brings no bot: it failed, or a descriptor was missing; or its bot may not come, by its address; or the system
--- refused to follow its connection.
+-- refused to follow its connection. The address is the one that the network returned with the connection.
 pub data BringsNoBot {N C : Type 0} (transition : N → NetworkCall C → N → Type 0) (count : ℕ) (may_come : SocketAddr → Bool)
-    (old new : N) : Type 0 where
-  Fails : (error : Error) → AcceptsBeside transition count old new (Err error) → BringsNoBot transition count may_come old new
+    (old new : N) (why : NoBot) : Type 0 where
+  Fails : (error : Error) → AcceptsBeside transition count old new (Err error) → why ≡ NoBots.NoneCame →
+      BringsNoBot transition count may_come old new why
   MayNotCome : (came : C × SocketAddr) → AcceptsBeside transition count old new (Ok came) → may_come came.1 ≡ false →
-      BringsNoBot transition count may_come old new
+      why ≡ NoBots.MayNotCome came.1 → BringsNoBot transition count may_come old new why
   IsRefused : (came : C × SocketAddr) (mid : N) (key : ℕ) (after : C) → AcceptsBeside transition count old mid (Ok came) →
-      transition mid (Follows came.0 key false after) new → BringsNoBot transition count may_come old new
+      transition mid (Follows came.0 key false after) new → why ≡ NoBots.NotFollowed came.1 →
+      BringsNoBot transition count may_come old new why
+
+-- whether a bot may not come
+abbrev pub is_declined : NoBot → Bool
+is_declined NoBots.NoneCame = false
+is_declined (NoBots.MayNotCome address) = true
+is_declined (NoBots.NotFollowed address) = false
 
 -- an accept was made, and gave a connection
 pub record GivesConnection {N C : Type 0} (transition : N → NetworkCall C → N → Type 0) (count : ℕ) (old : N) : Type 0 where

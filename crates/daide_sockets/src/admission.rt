@@ -10,7 +10,7 @@ ghost use Rattle.daide_buffered_io.specs.Buffers.{Buffer};
 ghost use Rattle.daide_io.specs.Network.{AsksConnect, Listens, StopsListening, connect_status};
 ghost use Rattle.daide_io.specs.declared.network.ConnectReport.{ConnectReport};
 ghost use Rattle.daide_settings.specs.Ranges.{host_of, may_come};
-ghost use Rattle.daide_sockets.specs.Accepting.{is_bot_due, may_connect, descriptors_for, round_begun, shut, AcceptsOnce, AcceptsOneBot, BringsBot};
+ghost use Rattle.daide_sockets.specs.Accepting.{is_bot_due, is_declined, may_connect, descriptors_for, round_begun, shut, AcceptsOnce, AcceptsOneBot, BringsBot};
 ghost use Rattle.daide_sockets.specs.Accepting.{AsksAtMostOnce, BringsNoBot, ConnectsFrom, HasConnected, TriesOn, GivesConnection, Pauses};
 ghost use Rattle.daide_sockets.specs.PollTimes.{listener_armed};
 ghost use Rattle.daide_sockets.specs.KeptRows.{ChangesRows};
@@ -48,6 +48,17 @@ pub struct Acceptor {
     came: u32,
     /// The further descriptors that must be free for an accept: for the connection, for that to the server, and for a record.
     descriptors: usize,
+}
+
+/// Why an accept brings no bot.
+#[derive(Clone, Copy)]
+pub enum NoBot {
+    /// None came, a descriptor is missing, or no number is left.
+    NoneCame,
+    /// The bot at this address may not come.
+    MayNotCome(SocketAddr),
+    /// The system does not follow the connection of the bot at this address, or the list of those present has no room.
+    NotFollowed(SocketAddr),
 }
 
 impl Acceptor {
@@ -186,10 +197,10 @@ impl Acceptor {
 
     /// Returns the next bot that came, and its socket. The bot is added to those present.
     ///
-    /// Fails with the address of a bot that may not come by the ranges and the limit `rules`, beside those present: its
-    /// connection is closed at once. The next poll does not block then, since an accept is still due: the system does not
-    /// report again the bots that wait behind it. Fails with no address if none came, if the system refuses to follow it,
-    /// or if all numbers are given. After a refusal a pause begins, as after a failed accept.
+    /// Fails with `NoneCame` if all numbers are given, or if none came; with `MayNotCome` for a bot that may not come by the
+    /// ranges and the limit `rules`, beside those present; and with `NotFollowed` if the system refuses to follow it. The
+    /// connection of either bot is closed at once. The next poll does not block after `MayNotCome`, since an accept is still due:
+    /// the system does not report again the bots that wait behind it. After a refusal a pause begins, as after a failed accept.
     ///
     /// `one`: exactly one bot was accepted, is followed, and is counted. It has the next number, and came at the table's reading
     /// of the clock.
@@ -204,7 +215,9 @@ impl Acceptor {
     /// this key.
     ///
     /// `kept`: a connection that was accepted is closed only if its bot may not come, if the list of those present has no room,
-    /// or if the system refuses to follow it under this key.
+    /// or if the system refuses to follow it under this key. The error says which, with the address that the network returned.
+    ///
+    /// `none_due`: if no accept is due, none came.
     ///
     /// `awaited`: the next poll is for bots if it was.
     ///
@@ -217,7 +230,7 @@ impl Acceptor {
         pool: &'w Pool,
         rules: (&[AddressRange], u16),
         present: &mut Present,
-    ) -> Result<(Bot, Socket<'w, N::Connection>), Option<SocketAddr>>
+    ) -> Result<(Bot, Socket<'w, N::Connection>), NoBot>
         ensures one { IfOk result (λ bot. (self.new.came ≡ self.old.came + 1)
             × (bot.0 ≡ bot_from self.new.came bot.0.address poller.old.table.reading) × IsFresh bot.1.stream) }
         ensures none { IfErr result (λ _. self.new.came ≡ self.old.came) }
@@ -230,11 +243,12 @@ impl Acceptor {
             × (is_bot_due poller.old.table self.old ≡ true)) }
         ensures accepted { IfOk result (λ bot. BringsBot N.transition self.old.descriptors bot.0.address key bot.1.stream.stream poller.old.network
             poller.new.network) }
-        ensures kept { IfErr result (λ _. self.old.came < u32.MAX →
+        ensures kept { IfErr result (λ why. self.old.came < u32.MAX →
             is_bot_due poller.old.table self.old ≡ true →
             HasRoomForOne present.old → BringsNoBot N.transition self.old.descriptors
             (λ address. may_come rules.entry.0.now rules.entry.1 (hosts_of present.old.bots.items) (host_of (socket_ip address)))
-            poller.old.network poller.new.network) }
+            poller.old.network poller.new.network why) }
+        ensures none_due { is_bot_due poller.old.table self.old ≡ false → result ≡ Err NoBot.NoneCame }
         ensures clock { poller.new.table.reading ≡ poller.old.table.reading }
         ensures allowed { IfOk result (λ bot. may_come rules.entry.0.now rules.entry.1 (hosts_of present.old.bots.items)
             (host_of (socket_ip bot.0.address)) ≡ true) }
@@ -244,28 +258,28 @@ impl Acceptor {
         ensures left { IfErr result (λ _. self.old.came < u32.MAX →
             is_bot_due poller.new.table self.new ≡ true →
             GivesConnection N.transition self.old.descriptors poller.old.network) }
-        ensures refused { result ≡ Err None → self.old.came < u32.MAX →
+        ensures refused { IfErr result (λ why. is_declined why ≡ false → self.old.came < u32.MAX →
             is_bot_due poller.new.table self.new ≡ true →
-            Pauses poller.old.table.reading ErrorKind.Other None }
+            Pauses poller.old.table.reading ErrorKind.Other None) }
         ensures table { ChangesRows (λ row. (row ≡ listener_key poller.old.table) ⊎ (row ≡ key)) poller.old.table
             poller.new.table }
-        ensures declined { (address : SocketAddr) → result ≡ Err (Some address) →
+        ensures declined { (address : SocketAddr) → result ≡ Err (NoBot.MayNotCome address) →
             may_come rules.entry.0.now rules.entry.1 (hosts_of present.old.bots.items) (host_of (socket_ip address)) ≡ false }
     {
         let Some(number) = self.came.checked_add(1) else {
-            return Err(None);
+            return Err(NoBot::NoneCame);
         };
         let Some((stream, address)) = self.accept(poller) else {
-            return Err(None);
+            return Err(NoBot::NoneCame);
         };
         let host = Host::of(address.ip());
         let (allow, most) = rules;
         if !present.may_come(allow, most, host) {
-            return Err(Some(address));
+            return Err(NoBot::MayNotCome(address));
         }
         let Some(socket) = Socket::new(poller, pool, stream, key) else {
             self.listener.pause(poller.table.now(), ErrorKind::Other);
-            return Err(None);
+            return Err(NoBot::NotFollowed(address));
         };
         let bot = Bot {
             number,
@@ -276,7 +290,7 @@ impl Acceptor {
         // The list has room for each bot of a run.
         if !present.add(bot) {
             self.listener.pause(poller.table.now(), ErrorKind::Other);
-            return Err(None);
+            return Err(NoBot::NotFollowed(address));
         }
         self.came = number;
         Ok((bot, socket))

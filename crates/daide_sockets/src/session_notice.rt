@@ -1,8 +1,9 @@
 //! The log lines about the sessions of a run, which `--verbose` requests.
 
-ghost use Rattle.std.specs.Prelude.{◌≡◌};
+ghost use Rattle.std.specs.Prelude.{◌≡◌, Some};
 ghost use Rattle.daide_protocol.specs.Account.{nothing_accounted};
 ghost use Rattle.daide_sockets.specs.Lines.{why_by, why_ended, milliseconds_between};
+ghost use Rattle.daide_sockets.specs.Lines.{ending_text, lasted_text, line_of, notice_text, side_name, why_text};
 
 use crate::timed::Timed;
 use daide_frame::code::Code;
@@ -26,6 +27,10 @@ pub enum SessionNotice {
     },
     /// A bot at this address may not come. It gets no number.
     Declined {
+        bot: SocketAddr,
+    },
+    /// A bot at this address came, and the system does not follow its connection. It gets no number.
+    Dropped {
         bot: SocketAddr,
     },
     /// Its server was reached, by a connection from this address.
@@ -63,6 +68,8 @@ impl Lasted {
 }
 
 impl fmt::Display for Lasted {
+    ghost output = { λ lasted. Some (lasted_text lasted.milliseconds) };
+
     /// Writes seconds with one digit after the point; nothing without a clock.
     fn fmt<W: fmt::Write>(&self, f: &mut fmt::Formatter<W>) -> fmt::Result {
         match self.milliseconds {
@@ -73,12 +80,20 @@ impl fmt::Display for Lasted {
 }
 
 impl fmt::Display for SessionNotice {
+    ghost output = { λ notice. Some (notice_text notice) };
+
     fn fmt<W: fmt::Write>(&self, f: &mut fmt::Formatter<W>) -> fmt::Result {
         match self {
             SessionNotice::Began { number, bot } => {
                 write!(f, "session {number} began: bot at {bot}")
             }
             SessionNotice::Declined { bot } => write!(f, "bot at {bot} may not come"),
+            SessionNotice::Dropped { bot } => {
+                write!(
+                    f,
+                    "bot at {bot} is dropped: the system cannot follow its connection"
+                )
+            }
             SessionNotice::Reached { number, own } => {
                 write!(f, "session {number} reached the server from {own}")
             }
@@ -89,6 +104,20 @@ impl fmt::Display for SessionNotice {
                 account,
             } => write!(f, "session {number} ended{lasted}: {why}; {account}"),
         }
+    }
+}
+
+/// The line of a notice.
+#[derive(Drop)]
+pub(crate) struct NoticeLine {
+    pub notice: SessionNotice,
+}
+
+impl fmt::Display for NoticeLine {
+    ghost output = { λ line. Some (line_of line.notice) };
+
+    fn fmt<W: fmt::Write>(&self, f: &mut fmt::Formatter<W>) -> fmt::Result {
+        writeln!(f, "daide-gate: {}", self.notice)
     }
 }
 
@@ -173,58 +202,53 @@ pub fn why_of(
 }
 
 /// Returns a side's name in a line.
-fn name_of(side: Side) -> &'static str {
+fn name_of(side: Side) -> &'static str
+    ensures { result.now ≡ side_name side }
+{
     match side {
         Side::Bot => "bot",
         Side::Server => "server",
     }
 }
 
-/// Writes a side's fault, with the field that it is about.
-fn write_fault<W: fmt::Write>(
-    f: &mut fmt::Formatter<W>,
-    side: Side,
-    code: Code,
-    field: Option<FaultField>,
-) -> fmt::Result {
-    let number = code.number();
-    let cause = FaultCause { code, field };
-    write!(f, "fault {number:02X} of {}: {cause}", name_of(side))
-}
-
-/// Writes an event of a side, with what comes before the side's name and after it.
-fn write_event<W: fmt::Write>(
-    f: &mut fmt::Formatter<W>,
-    before: &str,
-    side: Side,
-    after: &str,
-) -> fmt::Result {
-    write!(f, "{before}{}{after}", name_of(side))
-}
-
-/// Writes the event that ended a session.
-fn write_ending<W: fmt::Write>(
-    f: &mut fmt::Formatter<W>,
+/// The event that ended a session, with the field that a fault is about.
+#[derive(Drop)]
+struct Event {
     ending: Ending,
     field: Option<FaultField>,
-) -> fmt::Result {
-    match ending {
-        Ending::Ended(side) => write_event(f, "", side, " ended"),
-        Ending::Lost(side) => write_event(f, "", side, " lost"),
-        Ending::Final(side) => write_event(f, "FM of ", side, ""),
-        Ending::Error(side) => write_event(f, "EM of ", side, ""),
-        Ending::Fault(_, Code::ImTimeout) => f.write_str("no IM in time"),
-        Ending::Fault(side, code) => write_fault(f, side, code, field),
-        Ending::Stopped => f.write_str("stopped by the operator"),
+}
+
+impl fmt::Display for Event {
+    ghost output = { λ event. Some (ending_text event.ending event.field) };
+
+    fn fmt<W: fmt::Write>(&self, f: &mut fmt::Formatter<W>) -> fmt::Result {
+        match self.ending {
+            Ending::Ended(side) => write!(f, "{} ended", name_of(side)),
+            Ending::Lost(side) => write!(f, "{} lost", name_of(side)),
+            Ending::Final(side) => write!(f, "FM of {}", name_of(side)),
+            Ending::Error(side) => write!(f, "EM of {}", name_of(side)),
+            Ending::Fault(_, Code::ImTimeout) => f.write_str("no IM in time"),
+            Ending::Fault(side, code) => {
+                let (number, field) = (code.number(), self.field);
+                let cause = FaultCause { code, field };
+                write!(f, "fault {number:02X} of {}: {cause}", name_of(side))
+            }
+            Ending::Stopped => f.write_str("stopped by the operator"),
+        }
     }
 }
 
 impl fmt::Display for Why {
+    ghost output = { λ why. Some (why_text why) };
+
     fn fmt<W: fmt::Write>(&self, f: &mut fmt::Formatter<W>) -> fmt::Result {
         match *self {
-            Why::Ended(Cause::Session(ending), field) => write_ending(f, ending, field),
+            Why::Ended(Cause::Session(ending), field) => {
+                let event = Event { ending, field };
+                write!(f, "{event}")
+            }
             Why::Ended(Cause::TurnsSpent, _) => f.write_str("turns spent"),
-            Why::Silent(side) => write_event(f, "", side, " silent"),
+            Why::Silent(side) => write!(f, "{} silent", name_of(side)),
             Why::Stalled(side, seconds) => {
                 write!(f, "{} took nothing for {seconds} s", name_of(side))
             }

@@ -17,6 +17,7 @@ ghost use Rattle.daide_sockets.specs.Capacity.{capacity_after};
 ghost use Rattle.daide_sockets.specs.ControlSlots.{Each, PlaceShows, places, arming_control};
 ghost use Rattle.daide_sockets.specs.Finishing.{FinishesAll};
 ghost use Rattle.daide_sockets.specs.Table.{arming_all};
+ghost use Rattle.daide_sockets.specs.Lines.{Logs, LogsNoBot, end_notice, no_server_notice, timed_of};
 ghost use Rattle.daide_sockets.specs.Lingering.{LooksAround, in_pass, GoOnFor, no_closing};
 ghost use Rattle.daide_sockets.specs.Pairing.{Arriving, ClosesBothAt, TakesOut, is_vacant, pending_connects};
 ghost use Rattle.daide_sockets.specs.Present.{AdmitsBot, HasRoomForOne, hosts_of, without_bot};
@@ -27,13 +28,14 @@ ghost use Rattle.daide_sockets.specs.Clock.{due_after, IsSeconds, IsIdleTime, is
 ghost use Rattle.daide_sockets.specs.Table.{Table, IsPollTime, disarmed, key_of};
 ghost use Rattle.daide_sockets.specs.Timers.{PortsEvolve};
 ghost use Rattle.daide_sockets.specs.Wakeups.{PollsPlaces};
+ghost use Rattle.daide_sockets.specs.declared.admission.NoBot.{NoBot as NoBotOf};
 ghost use Rattle.daide_sockets.specs.declared.ports.SocketPorts.{SocketPorts as PortsOf};
 
 mod arrivals;
 mod beginning;
 mod orders;
 
-use crate::admission::{Acceptor, PendingConnection};
+use crate::admission::{Acceptor, NoBot, PendingConnection};
 use crate::capacity::Capacity;
 use crate::clock::idle_time_of;
 use crate::control::{Control, seconds_between};
@@ -41,10 +43,11 @@ use crate::lingering_close::Closings;
 use crate::poller::Poller;
 use crate::ports::SocketPorts;
 use crate::present::Present;
-use crate::session_notice::{Lasted, SessionNotice};
+use crate::session_notice::{Lasted, NoticeLine, SessionNotice};
 use crate::system::beginning::{Listening, RunLists};
 use crate::table::{SocketTable, server_key};
 use daide_buffered_io::pool::Pool;
+use daide_causes::Sink;
 use daide_frame::per_side::PerSide;
 use daide_frame::side::Side;
 use daide_io::network::Network;
@@ -53,7 +56,6 @@ use daide_io::system::{Connect, Notice, Orders, SessionEnd, SessionStatus, Syste
 use daide_settings::{AddressRange, Settings};
 use daide_status::SessionRow;
 use std::alloc::{Allocator, Global};
-use std::io::Write;
 use std::net::SocketAddr;
 use std::time::Duration;
 
@@ -101,7 +103,7 @@ use std::time::Duration;
 /// `stall_seconds`, is read from `flush_at` and `give_up_stalled`. `SessionNotice::of_end` and `why_of` give the counts
 /// and the cause in a line of a session's end. Tests and `scripts/recorded` show that `--verbose` writes it.
 #[derive(Drop)]
-pub struct Sockets<'w, N: Network, E: Write + Drop> {
+pub struct Sockets<'w, N: Network, E: Sink + Drop> {
     poller: Poller<N>,
     acceptor: Acceptor,
     servers: &'w [SocketAddr],
@@ -140,7 +142,7 @@ pub struct Sockets<'w, N: Network, E: Write + Drop> {
     capacity: Capacity,
 }
 
-impl<'w, N: Network, E: Write + Drop> Sockets<'w, N, E> {
+impl<'w, N: Network, E: Sink + Drop> Sockets<'w, N, E> {
     /// Creates the sockets of a run with no bot yet, over a network, with the addresses of the server, a table and a pool,
     /// and a deadline for connects. Returns `None` if memory is refused or the listener cannot be followed. Sessions are not
     /// logged.
@@ -229,11 +231,12 @@ impl<'w, N: Network, E: Write + Drop> Sockets<'w, N, E> {
 
     /// Logs a line of a session, if sessions are logged.
     fn log_session(&mut self, notice: SessionNotice)
-        ensures { self.new ≡ record self.old { errors = self.new.errors } }
+        ensures logged { Logs E.contents E.Fails self.old.is_verbose notice self.old.errors self.new.errors }
+        ensures same { self.new ≡ record self.old { errors = self.new.errors } }
     {
         if self.is_verbose {
             // The run goes on if the line cannot be written.
-            let _ = writeln!(self.errors, "daide-gate: {notice}");
+            let _ = self.errors.write_text(NoticeLine { notice });
         }
     }
 
@@ -375,7 +378,7 @@ impl<'w, N: Network, E: Write + Drop> Sockets<'w, N, E> {
     }
 }
 
-impl<'w, N: Network, E: Write + Drop> System<SocketPorts<'w, N::Connection>> for Sockets<'w, N, E> {
+impl<'w, N: Network, E: Sink + Drop> System<SocketPorts<'w, N::Connection>> for Sockets<'w, N, E> {
     ghost transition = { λ old call new. RunEvolves N.transition N.Connection.to_give N.Connection.taken N.Connection.calls
         (λ (ports : PortsOf N.Connection). ports)
         (run_state (old.poller.network, old.poller.table) (old.idle_time, old.stall_time) old.acceptor old.arrivals.items
@@ -488,12 +491,14 @@ impl<'w, N: Network, E: Write + Drop> System<SocketPorts<'w, N::Connection>> for
     ///
     /// `admitted`: the address of a bot that came is the one that the network returned with its connection. By this address it
     /// may come, by `allow` and `max_per_address` beside those that are there. It is the last of those from then on, with this
-    /// address, and the connection is that of the bot at its place.
+    /// address, and the connection is that of the bot at its place. The line of its session is logged, with its number and this
+    /// address, if sessions are.
     ///
     /// `absent`: if none came, those that are there are the same.
     ///
     /// `kept`: if a due accept brings no bot to a free place, and one more may be present, then it failed, or its bot may not come
-    /// by its address, or the system refused to follow its connection. No other bot is dropped.
+    /// by its address, or the system refused to follow its connection. No other bot is dropped. The line of a bot that is dropped
+    /// is logged if sessions are, with its address and why, and no other line.
     fn accept(&mut self, place: usize) -> bool
         ensures transition { RunEvolves N.transition N.Connection.to_give N.Connection.taken N.Connection.calls
             (λ (ports : PortsOf N.Connection). ports)
@@ -504,14 +509,17 @@ impl<'w, N: Network, E: Write + Drop> System<SocketPorts<'w, N::Connection>> for
         ensures admitted { result ≡ true → (address : SocketAddr) × AdmitsBot N.transition self.old.acceptor.descriptors self.old.servers.now
             (self.old.allow.now, self.old.max_per_address) self.old.poller.table.reading place self.new.acceptor.came address
             (self.old.poller.network, self.old.arrivals.items, self.old.present)
-            (self.new.poller.network, self.new.arrivals.items, self.new.present) }
+            (self.new.poller.network, self.new.arrivals.items, self.new.present)
+            × Logs E.contents E.Fails self.old.is_verbose (SessionNotice.Began self.new.acceptor.came address) self.old.errors
+            self.new.errors }
         ensures absent { result ≡ false → self.new.present ≡ self.old.present }
-        ensures kept { result ≡ false → place < length self.old.poller.table.deadlines →
-            is_vacant self.old.arrivals.items place ≡ true →
+        ensures kept { result ≡ false → (why : NoBotOf) × LogsNoBot E.contents E.Fails self.old.is_verbose why self.old.errors
+            self.new.errors × (is_bot_due self.old.poller.table self.old.acceptor ≡ false → why ≡ NoBot.NoneCame)
+            × (place < length self.old.poller.table.deadlines → is_vacant self.old.arrivals.items place ≡ true →
             self.old.acceptor.came < u32.MAX → is_bot_due self.old.poller.table self.old.acceptor ≡ true → HasRoomForOne self.old.present →
             BringsNoBot N.transition self.old.acceptor.descriptors (λ address. may_come self.old.allow.now self.old.max_per_address
             (hosts_of self.old.present.bots.items) (host_of (socket_ip address))) self.old.poller.network
-            self.new.poller.network }
+            self.new.poller.network why) }
         ensures same { self.new ≡ record self.old {
           poller = self.new.poller;
           acceptor = self.new.acceptor;
@@ -532,7 +540,8 @@ impl<'w, N: Network, E: Write + Drop> System<SocketPorts<'w, N::Connection>> for
     /// Returns the result of the connect for the bot at a place, if it has one. Otherwise the place rests, until something is
     /// reported of the connect, or until its deadline. After a request that sessions end now, the connect is given up.
     ///
-    /// `present`, `leaves`: those present are the same, except for a bot whose connect is given up.
+    /// `present`, `leaves`: those present are the same, except for a bot whose connect is given up. The line of the end of its
+    /// session is logged if sessions are.
     ///
     /// `transition`: it makes only calls of a connect: one begins, is asked for its state, or a socket is followed. So it accepts
     /// no bot and closes no listener (`GoesBy`). Each connection that a connect began is followed
@@ -556,7 +565,9 @@ impl<'w, N: Network, E: Write + Drop> System<SocketPorts<'w, N::Connection>> for
         ensures present { result ≢ Connect.Failed → self.new.present ≡ self.old.present }
         ensures leaves { result ≡ Connect.Failed → (arrival : Arriving N.Connection)
             × TakesOut self.old.arrivals.items place arrival self.new.arrivals.items
-            × (self.new.present.bots.items ≡ without_bot arrival.identity.number self.old.present.bots.items) }
+            × (self.new.present.bots.items ≡ without_bot arrival.identity.number self.old.present.bots.items)
+            × Logs E.contents E.Fails self.old.is_verbose (no_server_notice arrival.identity self.old.poller.table.reading)
+            self.old.errors self.new.errors }
         ensures same { self.new ≡ record self.old {
           poller = self.new.poller;
           arrivals = self.new.arrivals;
@@ -600,6 +611,8 @@ impl<'w, N: Network, E: Write + Drop> System<SocketPorts<'w, N::Connection>> for
     /// Ends the session at a place: both its sockets begin to close.
     ///
     /// `transition`: it makes no call of the network but those that follow these two sockets (`GoesBy`).
+    ///
+    /// `logged`: the line of its end is logged if sessions are: with its number, its time, its cause and its counts.
     fn retire(&mut self, place: usize, ports: SocketPorts<'w, N::Connection>, end: SessionEnd)
         ensures transition { RunEvolves N.transition N.Connection.to_give N.Connection.taken N.Connection.calls
             (λ (ports : PortsOf N.Connection). ports)
@@ -610,6 +623,8 @@ impl<'w, N: Network, E: Write + Drop> System<SocketPorts<'w, N::Connection>> for
         ensures closes { ClosesBothAt N.Connection.to_give N.Connection.taken N.Connection.calls
             self.old.poller.table.reading self.old.closings (pair_of ports.entry) self.new.closings }
         ensures present { self.new.present.bots.items ≡ without_bot ports.entry.identity.number self.old.present.bots.items }
+        ensures logged { Logs E.contents E.Fails self.old.is_verbose (end_notice ports.entry.identity self.old.poller.table.reading
+            end (timed_of ports.entry.sides) self.old.stall_seconds) self.old.errors self.new.errors }
         ensures same { self.new ≡ record self.old {
           poller = self.new.poller;
           closings = self.new.closings;

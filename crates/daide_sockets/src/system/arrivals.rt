@@ -2,31 +2,33 @@
 
 ghost use Rattle.std.specs.Duration.{as_nanos};
 ghost use Rattle.std.specs.Net.Socket.{socket_ip};
-ghost use Rattle.std.specs.Prelude.{◌≡◌, ◌<◌, ◌≤◌, ◌&&◌, nat_lt, IfSome, IfNone, None, Some, true, false, length, slice_set};
+ghost use Rattle.std.specs.Prelude.{◌≡◌, ◌<◌, ◌≤◌, ◌&&◌, nat_lt, IfOk, IfErr, IfSome, IfNone, None, Some, Err, true, false, length, slice_set};
 ghost use Rattle.daide_io.specs.System.{Accepts};
 ghost use Rattle.daide_frame.specs.declared.side.Side.TheVariants.{Server};
 ghost use Rattle.daide_settings.specs.Ranges.{host_of, may_come};
 ghost use Rattle.daide_sockets.specs.Accepting.{is_bot_due, AcceptsThenConnects, BringsNoBot, GivesConnection};
 ghost use Rattle.daide_sockets.specs.KeptRows.{ChangesRows, IsAcceptRow};
+ghost use Rattle.daide_sockets.specs.Lines.{Logs, LogsNoBot, no_server_notice};
 ghost use Rattle.daide_sockets.specs.Pairing.{ClosesAt, Comes, ComesWith, TakesOut, arrival_at, is_vacant};
 ghost use Rattle.daide_sockets.specs.Present.{AdmitsBot, HasRoomForOne, hosts_of, without_bot};
 ghost use Rattle.daide_sockets.specs.Rows.{KeepsClosingRows, closing_keys};
 ghost use Rattle.daide_sockets.specs.Scheduling.{RunEvolves, run_state};
 ghost use Rattle.daide_sockets.specs.Table.{forgotten, key_of};
 ghost use Rattle.daide_sockets.specs.Wakeups.{GoesBy, is_of_connect};
+ghost use Rattle.daide_sockets.specs.declared.admission.NoBot.{NoBot as NoBotOf};
 ghost use Rattle.daide_sockets.specs.declared.ports.SocketPorts.{SocketPorts as PortsOf};
 
 use super::Sockets;
-use crate::admission::{PendingConnection, Unreached};
+use crate::admission::{NoBot, PendingConnection, Unreached};
 use crate::ports::SocketPorts;
 use crate::session_notice::{Lasted, SessionNotice};
 use crate::table::{bot_key, server_key};
+use daide_causes::Sink;
 use daide_frame::side::Side;
 use daide_io::network::Network;
-use std::io::Write;
 use std::net::SocketAddr;
 
-impl<'w, N: Network, E: Write + Drop> Sockets<'w, N, E> {
+impl<'w, N: Network, E: Sink + Drop> Sockets<'w, N, E> {
     /// Logs the address from which the server of a session was reached, if the system says it and sessions are logged.
     pub(super) fn log_server(&mut self, ports: &SocketPorts<'w, N::Connection>)
         ensures { self.new ≡ record self.old { errors = self.new.errors } }
@@ -38,12 +40,15 @@ impl<'w, N: Network, E: Write + Drop> Sockets<'w, N, E> {
         }
     }
 
-    /// Logs the address of a bot that may not come, if there is one and sessions are logged.
-    fn log_declined(&mut self, declined: Option<SocketAddr>)
-        ensures { self.new ≡ record self.old { errors = self.new.errors } }
+    /// Logs the bot that was accepted and closed at once, if there is one and sessions are logged, and why.
+    fn log_no_bot(&mut self, why: NoBot)
+        ensures logged { LogsNoBot E.contents E.Fails self.old.is_verbose why self.old.errors self.new.errors }
+        ensures same { self.new ≡ record self.old { errors = self.new.errors } }
     {
-        if let Some(bot) = declined {
-            self.log_session(SessionNotice::Declined { bot });
+        match why {
+            NoBot::NoneCame => {}
+            NoBot::MayNotCome(bot) => self.log_session(SessionNotice::Declined { bot }),
+            NoBot::NotFollowed(bot) => self.log_session(SessionNotice::Dropped { bot }),
         }
     }
 
@@ -53,6 +58,8 @@ impl<'w, N: Network, E: Write + Drop> Sockets<'w, N, E> {
             self.old.poller.table.reading self.old.closings left.entry.bot.stream self.new.closings }
         ensures present { self.new.present.bots.items ≡ without_bot left.entry.identity.number self.old.present.bots.items }
         ensures clock { self.new.poller.table.reading ≡ self.old.poller.table.reading }
+        ensures logged { Logs E.contents E.Fails self.old.is_verbose
+            (no_server_notice left.entry.identity self.old.poller.table.reading) self.old.errors self.new.errors }
         ensures calls { GoesBy is_of_connect N.transition self.old.poller.network self.new.poller.network }
         ensures rows { KeepsClosingRows (forgotten self.old.poller.table place) (closing_keys self.old.closings.streams)
             self.new.poller.table (closing_keys self.new.closings.streams) }
@@ -117,8 +124,9 @@ impl<'w, N: Network, E: Write + Drop> Sockets<'w, N, E> {
             && self.arrivals[place].is_none()
     }
 
-    /// Accepts the next bot, if there is one, and begins its connect. Returns the line of its session; `None` if no bot
-    /// came. Closes the connection of one that may not come, and logs its address if sessions are logged.
+    /// Accepts the next bot, if there is one, and begins its connect. Returns the line of its session.
+    /// Fails if no bot came, and says why. The connection of one that may not come, or that the system refuses to follow, is
+    /// closed.
     ///
     /// `made`: with room for one more, exactly one accept is made if the listener is ready by the table, and no pause is
     /// under way. Then only connects for its bot begin, so no other bot is accepted and dropped.
@@ -126,7 +134,9 @@ impl<'w, N: Network, E: Write + Drop> Sockets<'w, N, E> {
     /// `not_made`: otherwise no call is made.
     ///
     /// `kept`: if a due accept brings no bot, and one more may be present, then it failed, or its bot may not come, or no row
-    /// is left, or the system refused to follow its connection. No other bot is dropped.
+    /// is left, or the system refused to follow its connection. No other bot is dropped. The error says which.
+    ///
+    /// `none_due`: if no accept is due, none came.
     ///
     /// `awaited`: the next poll is for bots too, so it does not block while an accept is due.
     ///
@@ -137,11 +147,11 @@ impl<'w, N: Network, E: Write + Drop> Sockets<'w, N, E> {
     /// `admitted`: the network returned the address of the line with the connection of the bot, which is now at this place. By
     /// this address it may come, beside those that are there. It is the last of those from then on, with the number and the
     /// address of the line.
-    pub(super) fn accept_next(&mut self, place: usize) -> Option<SessionNotice>
-        ensures comes { IfSome result (λ _. Comes
+    pub(super) fn accept_next(&mut self, place: usize) -> Result<SessionNotice, NoBot>
+        ensures comes { IfOk result (λ _. Comes
             (record { came = self.old.acceptor.came; arrivals = self.old.arrivals.items; closing = self.old.closings }) place
             (record { came = self.new.acceptor.came; arrivals = self.new.arrivals.items; closing = self.new.closings })) }
-        ensures none { IfNone result ((self.new.acceptor.came ≡ self.old.acceptor.came)
+        ensures none { IfErr result (λ _. (self.new.acceptor.came ≡ self.old.acceptor.came)
             × (self.new.arrivals.items ≡ self.old.arrivals.items) × (self.new.closings ≡ self.old.closings)) }
         ensures made { place < length self.old.poller.table.deadlines →
             is_vacant self.old.arrivals.items place ≡ true →
@@ -151,37 +161,37 @@ impl<'w, N: Network, E: Write + Drop> Sockets<'w, N, E> {
             is_vacant self.old.arrivals.items place ≡ true →
             self.old.acceptor.came < u32.MAX → is_bot_due self.old.poller.table self.old.acceptor ≡ false) →
             self.new.poller.network ≡ self.old.poller.network }
-        ensures kept { IfNone result (place < length self.old.poller.table.deadlines →
+        ensures kept { IfErr result (λ why. place < length self.old.poller.table.deadlines →
             is_vacant self.old.arrivals.items place ≡ true →
             self.old.acceptor.came < u32.MAX → is_bot_due self.old.poller.table self.old.acceptor ≡ true → HasRoomForOne self.old.present →
             BringsNoBot N.transition self.old.acceptor.descriptors (λ address. may_come self.old.allow.now self.old.max_per_address
             (hosts_of self.old.present.bots.items) (host_of (socket_ip address))) self.old.poller.network
-            self.new.poller.network) }
+            self.new.poller.network why) }
+        ensures none_due { is_bot_due self.old.poller.table self.old.acceptor ≡ false → result ≡ Err NoBot.NoneCame }
         ensures awaited { self.new.acceptor.awaits_bots ≡ true }
-        ensures left { IfNone result (place < length self.old.poller.table.deadlines →
+        ensures left { IfErr result (λ _. place < length self.old.poller.table.deadlines →
             is_vacant self.old.arrivals.items place ≡ true →
             self.old.acceptor.came < u32.MAX → is_bot_due self.new.poller.table self.new.acceptor ≡ true →
             GivesConnection N.transition self.old.acceptor.descriptors self.old.poller.network) }
-        ensures times { IfSome result (λ _. ComesWith self.old.arrivals.items place self.old.poller.table.reading
+        ensures times { IfOk result (λ _. ComesWith self.old.arrivals.items place self.old.poller.table.reading
             (as_nanos self.old.im_time) (as_nanos self.old.connect_time) self.new.arrivals.items) }
-        ensures admitted { IfSome result (λ began. (address : SocketAddr)
+        ensures admitted { IfOk result (λ began. (address : SocketAddr)
             × (began ≡ SessionNotice.Began self.new.acceptor.came address) × AdmitsBot N.transition self.old.acceptor.descriptors self.old.servers.now
             (self.old.allow.now, self.old.max_per_address) self.old.poller.table.reading place self.new.acceptor.came address
             (self.old.poller.network, self.old.arrivals.items, self.old.present)
             (self.new.poller.network, self.new.arrivals.items, self.new.present)) }
-        ensures absent { IfNone result (self.new.present ≡ self.old.present) }
+        ensures absent { IfErr result (λ _. self.new.present ≡ self.old.present) }
         ensures table { ChangesRows (IsAcceptRow self.old.poller.table place) self.old.poller.table self.new.poller.table }
         ensures same { self.new ≡ record self.old {
           poller = self.new.poller;
           acceptor = self.new.acceptor;
           arrivals = self.new.arrivals;
           present = self.new.present;
-          errors = self.new.errors;
         } }
     {
         self.acceptor.await_bots();
         if !self.has_place(place) {
-            return None;
+            return Err(NoBot::NoneCame);
         }
         let rules = (self.allow, self.max_per_address);
         let next = self.acceptor.next_bot(
@@ -193,10 +203,7 @@ impl<'w, N: Network, E: Write + Drop> Sockets<'w, N, E> {
         );
         let (identity, bot) = match next {
             Ok(next) => next,
-            Err(declined) => {
-                self.log_declined(declined);
-                return None;
-            }
+            Err(why) => return Err(why),
         };
         let times = (self.im_time, self.connect_time);
         let key = server_key(place);
@@ -208,7 +215,7 @@ impl<'w, N: Network, E: Write + Drop> Sockets<'w, N, E> {
             times,
         );
         self.put_arrival(place, arrival);
-        Some(SessionNotice::Began {
+        Ok(SessionNotice::Began {
             number: identity.number,
             bot: identity.address,
         })
@@ -227,14 +234,17 @@ impl<'w, N: Network, E: Write + Drop> Sockets<'w, N, E> {
         ensures admitted { result ≡ true → (address : SocketAddr) × AdmitsBot N.transition self.old.acceptor.descriptors self.old.servers.now
             (self.old.allow.now, self.old.max_per_address) self.old.poller.table.reading place self.new.acceptor.came address
             (self.old.poller.network, self.old.arrivals.items, self.old.present)
-            (self.new.poller.network, self.new.arrivals.items, self.new.present) }
+            (self.new.poller.network, self.new.arrivals.items, self.new.present)
+            × Logs E.contents E.Fails self.old.is_verbose (SessionNotice.Began self.new.acceptor.came address) self.old.errors
+            self.new.errors }
         ensures absent { result ≡ false → self.new.present ≡ self.old.present }
-        ensures kept { result ≡ false → place < length self.old.poller.table.deadlines →
-            is_vacant self.old.arrivals.items place ≡ true →
+        ensures kept { result ≡ false → (why : NoBotOf) × LogsNoBot E.contents E.Fails self.old.is_verbose why self.old.errors
+            self.new.errors × (is_bot_due self.old.poller.table self.old.acceptor ≡ false → why ≡ NoBot.NoneCame)
+            × (place < length self.old.poller.table.deadlines → is_vacant self.old.arrivals.items place ≡ true →
             self.old.acceptor.came < u32.MAX → is_bot_due self.old.poller.table self.old.acceptor ≡ true → HasRoomForOne self.old.present →
             BringsNoBot N.transition self.old.acceptor.descriptors (λ address. may_come self.old.allow.now self.old.max_per_address
             (hosts_of self.old.present.bots.items) (host_of (socket_ip address))) self.old.poller.network
-            self.new.poller.network }
+            self.new.poller.network why) }
         ensures same { self.new ≡ record self.old {
           poller = self.new.poller;
           acceptor = self.new.acceptor;
@@ -243,9 +253,13 @@ impl<'w, N: Network, E: Write + Drop> Sockets<'w, N, E> {
           errors = self.new.errors;
         } }
     {
-        let Some(began) = self.accept_next(place) else {
-            self.poller.table.is_bounded();
-            return false;
+        let began = match self.accept_next(place) {
+            Ok(began) => began,
+            Err(why) => {
+                self.log_no_bot(why);
+                self.poller.table.is_bounded();
+                return false;
+            }
         };
         self.log_session(began);
         self.poller.table.is_bounded();

@@ -13,10 +13,10 @@ ghost use Rattle.daide_sockets.specs.Wakeups.{GoesBy, is_after_poll};
 
 use super::Sockets;
 use crate::admission::pending_count;
+use daide_causes::Sink;
 use daide_io::network::Network;
 use daide_io::system::Orders;
 use daide_status::RunStatus;
-use std::io::Write;
 
 /// Returns a number of bots as 32 bits.
 fn counted(count: usize) -> u32
@@ -25,7 +25,7 @@ fn counted(count: usize) -> u32
     u32::try_from(count).unwrap_or(u32::MAX)
 }
 
-impl<'w, N: Network, E: Write + Drop> Sockets<'w, N, E> {
+impl<'w, N: Network, E: Sink + Drop> Sockets<'w, N, E> {
     /// Returns the status of the run.
     fn run_status(&self) -> RunStatus
         ensures { IsRunStatus self.now.acceptor.came (length self.now.present.bots.items)

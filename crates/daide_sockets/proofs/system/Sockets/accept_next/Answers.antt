@@ -40,7 +40,7 @@ returns-clause-admitted g c =
 
 pub returns-in-Err-clause-left : goal.returns-in-Err-clause-left
 returns-in-Err-clause-left g c = λ lt free few due.
-    rw c.await_bots.ensures at (c.in-Err.ensures.left (rw c.await_bots.ensures few) (rw c.log_declined.ensures at due))
+    rw c.await_bots.ensures at (c.in-Err.ensures.left (rw c.await_bots.ensures few) due)
 
 pub returns-then-not-has_place-clause-table : goal.returns-then-not-has_place-clause-table
 returns-then-not-has_place-clause-table g c = changes_none _ _ _ refl
@@ -50,7 +50,7 @@ returns-in-Err-clause-table g c =
     let has = c.has_place.ensures.rows c.if-not-has_place.false in
     let lt = has.0 in
     let key = key_fits c.args.place _ c.bot_key.result Bot c.bot_key.ensures has.1 in
-    rw c.log_declined.ensures (accept_only _ _ c.args.place _ lt key c.next_bot-next.ensures.table)
+    accept_only _ _ c.args.place _ lt key c.next_bot-next.ensures.table
 
 pub returns-clause-table : goal.returns-clause-table
 returns-clause-table g c =
@@ -62,14 +62,12 @@ returns-clause-table g c =
     (accept_then _ _ _ c.args.place _ _ lt bot server c.next_bot-next.ensures.table c.new-arrival.ensures.table)
 
 pub returns-in-Err-clause-made : goal.returns-in-Err-clause-made
-returns-in-Err-clause-made g c =
-    rw c.log_declined.ensures
-    (λ lt free few due. record {
-      mid = c.next_bot-next.new.poller.network;
-      accepts = rw c.await_bots.ensures at (c.next_bot-next.ensures.once (rw c.await_bots.ensures due) (rw c.await_bots.ensures few));
-      tried = 0;
-      connects = refl;
-    })
+returns-in-Err-clause-made g c = λ lt free few due. record {
+  mid = c.next_bot-next.new.poller.network;
+  accepts = rw c.await_bots.ensures at (c.next_bot-next.ensures.once (rw c.await_bots.ensures due) (rw c.await_bots.ensures few));
+  tried = 0;
+  connects = refl;
+}
 
 pub returns-clause-made : goal.returns-clause-made
 returns-clause-made g c = λ lt free few due.
@@ -83,7 +81,5 @@ returns-clause-made g c = λ lt free few due.
     })
 
 pub returns-in-Err-clause-kept : goal.returns-in-Err-clause-kept
-returns-in-Err-clause-kept g c =
-    rw c.log_declined.ensures
-    (λ lt free few due places.
-    rw c.await_bots.ensures at (c.in-Err.ensures.kept (rw c.await_bots.ensures few) (rw c.await_bots.ensures due) places))
+returns-in-Err-clause-kept g c = λ lt free few due places.
+    rw c.await_bots.ensures at (c.in-Err.ensures.kept (rw c.await_bots.ensures few) (rw c.await_bots.ensures due) places)

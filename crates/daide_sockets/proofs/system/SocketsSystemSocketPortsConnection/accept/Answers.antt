@@ -1,9 +1,14 @@
 use Rattle.std.proofs.Common.{refl}
+use Rattle.daide_sockets.specs.declared.admission.NoBot.TheVariants.{NoneCame}
 use Rattle.daide_sockets.proofs.system.SocketsSystemSocketPortsConnection.accept.Goals as goal
 
 pub returns-then-not-is_due-clause-kept : goal.returns-then-not-is_due-clause-kept
-returns-then-not-is_due-clause-kept g c = λ none lt free few due.
-    absurd (let known = c.is_due.ensures in let off = c.if-not-is_due.true in cc)
+returns-then-not-is_due-clause-kept g c = λ none. (
+  NoneCame,
+  refl,
+  λ off. refl,
+  λ lt free few due. absurd (let known = c.is_due.ensures in let off = c.if-not-is_due.true in cc),
+)
 
 -- no accept is due
 pub returns-then-not-is_due-clause-transition : goal.returns-then-not-is_due-clause-transition

@@ -61,7 +61,8 @@ returns-then-stops_now-clause-transition g c =
 pub returns-then-stops_now-clause-leaves : goal.returns-then-stops_now-clause-leaves
 returns-then-stops_now-clause-leaves g c = λ failed.
     let present = rw (c.give_up.ensures.0, c.take_arrival.ensures.same) at c.let_go.ensures.present in
-    rw c.let_go.ensures.same (c.in-Some.arrival, c.in-Some.ensures.some, present)
+    let logged = rw (c.give_up.ensures.0, c.take_arrival.ensures.same) at c.let_go.ensures.logged in
+    rw c.let_go.ensures.same (c.in-Some.arrival, c.in-Some.ensures.some, present, logged)
 
 -- it is still pending: its place rests
 pub returns-then-advances-clause-transition : goal.returns-then-advances-clause-transition
@@ -191,9 +192,12 @@ returns-in-Err-clause-transition g c =
 
 pub returns-in-Err-clause-leaves : goal.returns-in-Err-clause-leaves
 returns-in-Err-clause-leaves g c = λ failed.
-    let number = ap (λ (b : Accepted). b.number) (c.in-Err.ensures.unreached.0 ∙ c.advances.ensures.goes_on.identity) in
-    let present = rw (number, c.take_arrival.ensures.same) at c.let_go-in-Err.ensures.present in
-    rw c.let_go-in-Err.ensures.same (c.in-Some.arrival, c.in-Some.ensures.some, present)
+    let identity = c.in-Err.ensures.unreached.0 ∙ c.advances.ensures.goes_on.identity in
+    let present = rw (identity, c.take_arrival.ensures.same) at c.let_go-in-Err.ensures.present in
+    let table = rw c.take_arrival.ensures.same at c.advances.ensures.table in
+    let reading = ap (λ (t : Table). t.reading) table.same in
+    let logged = rw (identity, reading, c.take_arrival.ensures.same) at c.let_go-in-Err.ensures.logged in
+    rw c.let_go-in-Err.ensures.same (c.in-Some.arrival, c.in-Some.ensures.some, present, logged)
 
 pub returns-in-Err-clause-unreached : goal.returns-in-Err-clause-unreached
 returns-in-Err-clause-unreached g c = λ failed off.

@@ -6,10 +6,10 @@ use Rattle.daide_sockets.proofs.system.SocketsSystemSocketPortsConnection.retire
 
 pub returns-clause-transition : goal.returns-clause-transition
 returns-clause-transition g c =
-    let closes = rw (c.forget.ensures, c.log_session.ensures) at c.begin_both.ensures.closes in
-    let rows = rw (c.forget.ensures, c.log_session.ensures) at c.begin_both.ensures.rows in
-    let calls = rw c.log_session.ensures at c.begin_both.ensures.calls in
-    rw c.log_session.ensures (λ held. (
+    let closes = rw (c.forget.ensures, c.log_session.ensures.same) at c.begin_both.ensures.closes in
+    let rows = rw (c.forget.ensures, c.log_session.ensures.same) at c.begin_both.ensures.rows in
+    let calls = rw c.log_session.ensures.same at c.begin_both.ensures.calls in
+    rw c.log_session.ensures.same (λ held. (
       retire_holds _ _ c.args.place _ _ rows held,
       ((closes.0, (_, closes.1), (_, closes.2)), refl, refl),
       (
