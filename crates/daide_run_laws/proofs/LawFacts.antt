@@ -150,7 +150,7 @@ module _ {P S N C : Type 0} (port_transition : P → PortCall → P → Type 0) 
   ready_listener : is_bot_due old.table old.acceptor ≡ true → IsNoTime awaited.polls.time
   ready_listener due = awaited.awaits due
 
-module _ {P S N C : Type 0} (port_transition : P → PortCall → P → Type 0) (transition : N → NetworkCall C → N → Type 0)
+module _ {P S N : Type 0} (port_transition : P → PortCall → P → Type 0) (transition : N → NetworkCall S → N → Type 0)
     (to_give taken : S → Option (List ℕ)) (calls : S → Option (List StreamCall)) (ports_in : P → SocketPorts S)
     (law : EachBotHasRoom port_transition transition to_give taken calls ports_in) (settings : Settings)
     (before early : List (SystemCall P)) (run next : ServiceView P) (first old new : RunState N S) (came : Bool)

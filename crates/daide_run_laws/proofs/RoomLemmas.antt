@@ -399,7 +399,7 @@ heeded_within false counters all accepted sessions = (accepted, sessions)
 
 -- ---- the law
 
-module _ {P S N C : Type 0} (port_transition : P → PortCall → P → Type 0) (transition : N → NetworkCall C → N → Type 0)
+module _ {P S N : Type 0} (port_transition : P → PortCall → P → Type 0) (transition : N → NetworkCall S → N → Type 0)
     (to_give taken : S → Option (List ℕ)) (calls : S → Option (List StreamCall)) (ports_in : P → SocketPorts S) where
   abbrev Step : RunState N S → SystemCall P → RunState N S → Type 0
   Step = RunEvolves transition to_give taken calls ports_in

@@ -18,7 +18,7 @@ use Rattle.daide_sockets.specs.declared.ports.SocketPorts.{SocketPorts}
 -- Take sockets of a run with no bot yet, whose table has a deadline for each place, any rounds, and one more round that accepts. The sockets have room for the bot
 -- at its place: no connect is pending there, and a number is left. So exactly one accept is made if it is due and its descriptors
 -- are free. `ports_in` is the content of ports.
-abbrev pub EachBotHasRoom : {P S N C : Type 0} → (P → PortCall → P → Type 0) → (N → NetworkCall C → N → Type 0) →
+abbrev pub EachBotHasRoom : {P S N : Type 0} → (P → PortCall → P → Type 0) → (N → NetworkCall S → N → Type 0) →
     (S → Option (List ℕ)) → (S → Option (List ℕ)) → (S → Option (List StreamCall)) → (P → SocketPorts S) → Type 0
 EachBotHasRoom {P} {S} {N} port_transition transition to_give taken calls ports_in = (settings : Settings) (n : ℕ)
     (before early : List (SystemCall P)) (run next : ServiceView P) (first old new : RunState N S) (place : ℕ) (came : Bool) →

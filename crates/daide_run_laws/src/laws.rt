@@ -42,7 +42,7 @@ pub fn no_bot_waits<S: Duplex + Drop, N: Network, W: Sink + Drop>()
 /// descriptors are free, and then only connects for its bot (`AcceptsThenConnects`). The rows of both sockets are those of the place.
 ///
 /// A run has at most 2^32 - 1 bots.
-pub fn each_bot_has_room<S: Duplex + Drop, N: Network, W: Sink + Drop>()
+pub fn each_bot_has_room<S: Duplex + Drop, N: Network<Connection = S>, W: Sink + Drop>()
     ensures { EachBotHasRoom ⟦<Recording<SocketPorts<'static, S>, W> as Ports>⟧.transition N.transition S.to_give S.taken
         S.calls (λ ports. ports.ports) }
 {}

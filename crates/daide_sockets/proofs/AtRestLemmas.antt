@@ -3,7 +3,9 @@ use Rattle.std.proofs.Common.{◌≡◌, ℕ, ◌-◌, Bool, true, false, List, 
 use Rattle.std.specs.Prelude.{◌||◌, ◌&&◌, ◌≤◌, nat_le, not}
 use Rattle.daide_io.specs.Network.{NetworkCall}
 use Rattle.daide_io.specs.Streams.{StreamCall}
+use Rattle.daide_status.specs.declared.counts.RunCounts.{RunCounts}
 use Rattle.daide_status.specs.declared.snapshot.RunStatus.{RunStatus}
+use Rattle.daide_status.specs.declared.snapshot.ServerStatus.{ServerStatus}
 use Rattle.daide_sockets.specs.Control.{gathers_at, stops_at, stops_now_at}
 use Rattle.daide_sockets.specs.ControlSlots.{places, at_some, is_listener_due, PlacesAdvance, BeginsRound}
 use Rattle.daide_sockets.specs.Snapshot.{counted, IsRunStatus}
@@ -12,9 +14,9 @@ use Rattle.daide_sockets.specs.declared.control.Control.{Control}
 use Rattle.daide_sockets.specs.declared.control_connection.ControlConnection.{ControlConnection}
 
 -- a run has a status
-pub some_status : (came present pending lost : ℕ) (waiting stopping : Bool) (seconds : ℕ) →
-    (run : RunStatus) × IsRunStatus came present pending lost waiting stopping seconds run
-some_status came present pending lost waiting stopping seconds = (
+pub some_status : (came present pending lost : ℕ) (waiting stopping : Bool) (seconds : ℕ) (server : ServerStatus)
+    (counts : RunCounts) → (run : RunStatus) × IsRunStatus came present pending lost waiting stopping seconds server counts run
+some_status came present pending lost waiting stopping seconds server counts = (
   record {
     «open» = counted present - counted pending;
     connecting = counted pending;
@@ -23,6 +25,8 @@ some_status came present pending lost waiting stopping seconds = (
     has_waiting = waiting;
     is_stopping = stopping;
     seconds = seconds;
+    server = server;
+    counts = counts;
   },
   record {
     connecting = refl;
@@ -32,6 +36,8 @@ some_status came present pending lost waiting stopping seconds = (
     has_waiting = refl;
     is_stopping = refl;
     up = refl;
+    known = refl;
+    counted = refl;
   },
 )
 

@@ -6,11 +6,10 @@ use Rattle.std.specs.declared.time.Duration.{Duration}
 use Rattle.std.specs.declared.time.Instant.{Instant}
 use Rattle.daide_sockets.specs.Control.{has_control_work, control_due}
 use Rattle.daide_sockets.specs.PollTimes.{IsPlaceInTime, ControlWaitsAreInTime}
-use Rattle.daide_sockets.specs.ControlSlots.{places, has_free, is_control_due, arming_control, arming_places, arming_listener}
+use Rattle.daide_sockets.specs.ControlSlots.{places, has_free, is_control_due, arming_places, arming_listener}
 use Rattle.daide_sockets.specs.Clock.{IsInTimeFor}
 use Rattle.daide_sockets.specs.Table.{arming_all}
 use Rattle.daide_sockets.specs.Table.{Table, arming, IsPollTime}
-use Rattle.daide_sockets.specs.declared.control.Control.{Control}
 use Rattle.daide_sockets.specs.declared.control_connection.ControlConnection.{ControlConnection}
 use Rattle.daide_sockets.specs.declared.listener.Listener.{Listener}
 use Rattle.daide_sockets.proofs.InTimeLemmas.{each_in_time}

@@ -22,4 +22,5 @@ mod AcceptLemmas
 mod AcceptFacts
 pub mod ControlInTimeLemmas
 mod CapacityFacts
+mod LineFacts
 mod LawFacts

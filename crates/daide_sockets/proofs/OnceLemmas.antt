@@ -4,7 +4,7 @@ use Rattle.std.specs.Prelude.{nat_lt, if◌then◌else◌}
 use Rattle.daide_io.specs.System.{SystemCall, Polls, Shows, Accepts, Connects, BeginsTurn, Rests, Retires, Notifies, TransitsBy}
 use Rattle.daide_io.specs.declared.system.Connect.TheVariants.{Ready, Failed, Pending}
 use Rattle.daide_io.specs.Streams.{StreamCall}
-use Rattle.daide_sockets.specs.Pairing.{Arriving, Paired, RunSockets, StaysPending, TakesOut, Transits, pending_connects, sum_over}
+use Rattle.daide_sockets.specs.Pairing.{Arriving, Paired, RunSockets, StaysPending, Transits, pending_connects, sum_over}
 use Rattle.daide_sockets.specs.PairedOnce.{one_if_same, handed}
 use Rattle.daide_sockets.specs.declared.present.Bot.{Bot}
 use Rattle.daide_sockets.proofs.PairingLemmas.{sum_in, sum_out, sum_stays}

@@ -1,7 +1,7 @@
 -- A poll of a run: the places are polled, closing streams advance, and the control socket does.
-use Rattle.std.proofs.Common.{◌≡◌, ℕ, zero, suc, ◌+◌, ◌*◌, ◌≤◌, ◌<◌, Bool, true, false, List, [], ◌∷◌, ◌++◌, length, refl, sym, ap, ◌∙◌, subst, arith}
+use Rattle.std.proofs.Common.{◌≡◌, ℕ, zero, suc, ◌+◌, ◌≤◌, ◌<◌, Bool, true, false, List, [], ◌∷◌, ◌++◌, length, refl, sym, ap, ◌∙◌, subst, arith}
 use Rattle.std.proofs.Common.{Option, Some, None}
-use Rattle.std.specs.Prelude.{slice_get, nat_lt}
+use Rattle.std.specs.Prelude.{slice_get}
 use Rattle.std.specs.declared.time.Duration.{Duration}
 use Rattle.std.specs.declared.time.Instant.{Instant}
 use Rattle.daide_frame.specs.declared.side.Side.{Side}
@@ -11,7 +11,7 @@ use Rattle.daide_io.specs.Streams.{StreamCall}
 use Rattle.daide_io.specs.declared.system.Orders.{Orders}
 use Rattle.daide_status.specs.declared.snapshot.RunStatus.{RunStatus}
 use Rattle.daide_sockets.specs.declared.admission.Acceptor.{Acceptor}
-use Rattle.daide_io.specs.ReadyQueue.{is_among, occurrences_of, is_same, one_if}
+use Rattle.daide_io.specs.ReadyQueue.{is_among, occurrences_of, is_same}
 use Rattle.daide_io.specs.declared.network.SocketEvent.{SocketEvent}
 use Rattle.daide_sockets.specs.Control.{has_control_work, control_due}
 use Rattle.daide_sockets.specs.Accepting.{ClosesOrNot, round_begun}
@@ -20,12 +20,12 @@ use Rattle.daide_sockets.specs.KeptRows.{ChangesRows, IsFixedRow, KeepsReportsOf
 use Rattle.daide_sockets.specs.Lingering.{ClosingList}
 use Rattle.daide_sockets.specs.Pairing.{Arriving}
 use Rattle.daide_sockets.specs.Scheduling.{BringsOrders, IsStatusOf, RunState, run_state}
-use Rattle.daide_sockets.specs.Rows.{AreRowsOf, KeepsClosingRows, taken_at}
-use Rattle.daide_sockets.specs.Table.{Table, IsPollTime, PollsOnce, changed, deadline_at, deadline_in, first_closing, key_of, latest, listener_key}
+use Rattle.daide_sockets.specs.Rows.{AreRowsOf, KeepsClosingRows}
+use Rattle.daide_sockets.specs.Table.{Table, IsPollTime, changed, deadline_at, deadline_in, first_closing, key_of, latest, listener_key}
 use Rattle.daide_sockets.specs.Table.{merged, report_at, report_of, row_at, disarmed, arming, with_event, with_events}
 use Rattle.daide_sockets.specs.Clock.{is_past}
 use Rattle.daide_sockets.specs.Table.{arming_all}
-use Rattle.daide_sockets.specs.Wakeups.{GoesBy, KeepsPlace, PollsForPlaces, PollsPlaces, is_after_poll}
+use Rattle.daide_sockets.specs.Wakeups.{GoesBy, PollsForPlaces, PollsPlaces, is_after_poll}
 use Rattle.daide_sockets.specs.declared.control.Control.{Control}
 use Rattle.daide_sockets.specs.declared.listener.Listener.{Listener}
 use Rattle.daide_sockets.specs.declared.control_connection.ControlConnection.{ControlConnection}

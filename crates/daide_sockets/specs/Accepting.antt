@@ -72,10 +72,11 @@ connection_given (Err error) = None
 abbrev pub ClosesOrNot : {N C : Type 0} → (N → NetworkCall C → N → Type 0) → N → N → Type 0
 ClosesOrNot transition old new = (new ≡ old) ⊎ transition old StopsListening new
 
--- the descriptors that an accept of a bot needs: for its connection, for that to its server, and for its record, if it has one
+-- the descriptors that an accept of a bot needs: for its connection, for that to its server, for its record, if it has one, and
+-- one that it leaves to a control connection
 abbrev pub descriptors_for : Bool → ℕ
-descriptors_for false = 2
-descriptors_for true = 3
+descriptors_for false = 3
+descriptors_for true = 4
 
 -- An accept while so many further descriptors are free. Without them it fails with the system's error, and none is made.
 pub data AcceptsBeside {N C : Type 0} (transition : N → NetworkCall C → N → Type 0) (count : ℕ) (old new : N)

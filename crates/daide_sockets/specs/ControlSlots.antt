@@ -118,9 +118,9 @@ abbrev pub is_listener_due : Table → Option Listener → Bool
 is_listener_due table None = false
 is_listener_due table (Some listener) = is_control_due table listener
 
--- the descriptors that an accept of a control connection needs: for it, and one more, so that it never takes the last
+-- the descriptors that an accept of a control connection needs: one for it
 abbrev pub accept_descriptors : ℕ
-accept_descriptors = 2
+accept_descriptors = 1
 
 -- What one accept of a control connection brings: none if descriptors are missing, or if it failed. Otherwise the connection
 -- that it gave is followed under this key, and comes unless the system refuses.

@@ -18,7 +18,11 @@ use Rattle.daide_io.specs.declared.fault_field.FaultField.{FaultField}
 use Rattle.daide_io.specs.declared.system.Cause.{Cause}
 use Rattle.daide_io.specs.declared.system.Cause.TheVariants as Causes
 use Rattle.daide_io.specs.declared.system.SessionEnd.{SessionEnd}
-use Rattle.daide_protocol.specs.Account.{nothing_accounted}
+use Rattle.daide_protocol.specs.declared.account.Account.{Account}
+use Rattle.daide_status.specs.Counts.{declined_counted, dropped_counted}
+use Rattle.daide_status.specs.declared.counts.EndCause.{EndCause}
+use Rattle.daide_status.specs.declared.counts.EndCause.TheVariants as EndCauses
+use Rattle.daide_status.specs.declared.counts.RunCounts.{RunCounts}
 use Rattle.daide_sockets.specs.declared.admission.NoBot.{NoBot}
 use Rattle.daide_sockets.specs.declared.admission.NoBot.TheVariants.{NoneCame, MayNotCome, NotFollowed}
 use Rattle.daide_sockets.specs.declared.present.Bot.{Bot}
@@ -120,15 +124,45 @@ LogsNoBot contents Fails is_verbose (NotFollowed bot) old new = Logs contents Fa
 abbrev pub lasted_until : Bot → Option Instant → Lasted
 lasted_until bot now = record { milliseconds = milliseconds_between bot.since now }
 
--- the notice of a bot whose server could not be reached
-abbrev pub no_server_notice : Bot → Option Instant → SessionNotice
-no_server_notice bot now = Notices.Ended bot.number (lasted_until bot now) Whys.NoServer nothing_accounted
+-- the notice of a bot's session that is over for this reason, with this account
+abbrev pub end_notice : Bot → Option Instant → Why → Account → SessionNotice
+end_notice bot now why account = Notices.Ended bot.number (lasted_until bot now) why account
 
 -- the timeouts that the sockets of a session reported
 abbrev pub timed_of : {S : Type 0} → PerSide (Socket S) → PerSide Timed
 timed_of sides = record { bot = sides.bot.timed; server = sides.server.timed }
 
--- the notice of the end of a bot's session
-abbrev pub end_notice : Bot → Option Instant → SessionEnd → PerSide Timed → ℕ → SessionNotice
-end_notice bot now end timed stall_seconds =
-    Notices.Ended bot.number (lasted_until bot now) (why_by end.cause end.fault_field timed stall_seconds) end.account
+-- why a session is over whose sockets reported these timeouts
+abbrev pub why_retired : SessionEnd → PerSide Timed → ℕ → Why
+why_retired end timed stall_seconds = why_by end.cause end.fault_field timed stall_seconds
+
+-- why a session is over whose server was not reached: since sessions are to end now, or not
+abbrev pub why_unreached : Bool → Why
+why_unreached true = Whys.Ended (Causes.Session Stopped) None
+why_unreached false = Whys.NoServer
+
+-- ---- counts
+
+-- the cause by which a session is counted that an event ended
+abbrev pub ending_cause : Ending → EndCause
+ending_cause (Ended side) = EndCauses.Ended side
+ending_cause (Lost side) = EndCauses.Lost side
+ending_cause (Final side) = EndCauses.Final side
+ending_cause (Error side) = EndCauses.Error side
+ending_cause (Fault side ImTimeout) = EndCauses.NoIm
+ending_cause (Fault side code) = EndCauses.Fault side
+ending_cause Stopped = EndCauses.Stopped
+
+-- the cause by which a session is counted that is over for this reason
+abbrev pub end_cause_of : Why → EndCause
+end_cause_of (Whys.Ended Causes.TurnsSpent field) = EndCauses.TurnsSpent
+end_cause_of (Whys.Ended (Causes.Session ending) field) = ending_cause ending
+end_cause_of (Whys.Silent side) = EndCauses.Silent side
+end_cause_of (Whys.Stalled side seconds) = EndCauses.Stalled side
+end_cause_of Whys.NoServer = EndCauses.NoServer
+
+-- the counts of a run after an accept that brought no bot, for this reason
+abbrev pub no_bot_counted : NoBot → RunCounts → RunCounts
+no_bot_counted NoneCame counts = counts
+no_bot_counted (MayNotCome bot) counts = declined_counted counts
+no_bot_counted (NotFollowed bot) counts = dropped_counted counts

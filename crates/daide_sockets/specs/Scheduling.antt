@@ -10,7 +10,9 @@ use Rattle.daide_io.specs.System.{SystemCall, Polls, Shows, Accepts, Connects, B
 use Rattle.daide_io.specs.declared.system.Connect.TheVariants.{Ready, Failed, Pending}
 use Rattle.daide_io.specs.declared.system.Orders.{Orders}
 use Rattle.daide_buffered_io.specs.Buffers.{Buffer}
+use Rattle.daide_status.specs.declared.counts.RunCounts.{RunCounts}
 use Rattle.daide_status.specs.declared.snapshot.RunStatus.{RunStatus}
+use Rattle.daide_status.specs.declared.snapshot.ServerStatus.{ServerStatus}
 use Rattle.daide_status.specs.declared.snapshot.SessionRow.{SessionRow}
 use Rattle.daide_sockets.specs.declared.admission.Acceptor.{Acceptor}
 use Rattle.daide_sockets.specs.declared.control.Control.{Control}
@@ -167,11 +169,11 @@ pub record AwaitsBots {N C S : Type 0} (transition : N → NetworkCall C → N �
 
 -- ---- orders
 
--- the status of a run, some of whose bots are there, and some of which had no server
+-- the status of a run, some of whose bots are there, and some of which had no server, with what it knows of the server and counted
 abbrev pub IsStatusOf : {N S : Type 0} → RunState N S → RunStatus → Type 0
-IsStatusOf state run = (present unreached most : ℕ) × IsRunStatus state.acceptor.came present (pending_connects state.arrivals)
+IsStatusOf state run = (present unreached most : ℕ) × (server : ServerStatus) × (counts : RunCounts) × IsRunStatus state.acceptor.came present (pending_connects state.arrivals)
     unreached (nat_le most present && is_bot_due state.table state.acceptor) state.control.stops_accepting
-    (or_zero (seconds_between state.control.started_at state.table.reading)) run
+    (or_zero (seconds_between state.control.started_at state.table.reading)) server counts run
 
 -- The orders of a poll. It polled the network once, and read the clock. By what was reported of the control socket then, and by
 -- that reading, the control socket began its round: each order is what a connection requested. At last the network closed the

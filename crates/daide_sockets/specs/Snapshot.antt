@@ -4,7 +4,9 @@ use Rattle.std.specs.Time.{instant_nanos}
 use Rattle.std.specs.declared.time.Instant.{Instant}
 use Rattle.daide_frame.specs.PerSide.{PerSide}
 use Rattle.daide_io.specs.declared.system.SessionStatus.{SessionStatus}
+use Rattle.daide_status.specs.declared.counts.RunCounts.{RunCounts}
 use Rattle.daide_status.specs.declared.snapshot.RunStatus.{RunStatus}
+use Rattle.daide_status.specs.declared.snapshot.ServerStatus.{ServerStatus}
 use Rattle.daide_status.specs.declared.snapshot.SessionRow.{SessionRow}
 use Rattle.daide_sockets.specs.declared.present.Bot.{Bot}
 use Rattle.daide_sockets.specs.declared.socket.Socket.{Socket}
@@ -24,8 +26,10 @@ or_zero None = 0
 or_zero (Some seconds) = seconds
 
 -- The status of a run in which so many bots came: `present` of them are there, `pending` of which have a connect under way,
--- and the server could not be reached for `lost`. All others were served.
-pub record IsRunStatus (came present pending lost : ℕ) (waiting stopping : Bool) (seconds : ℕ) (run : RunStatus) : Type 0 where
+-- and the server could not be reached for `lost`. All others were served. What is known of the server, and the counts, are those of
+-- the run.
+pub record IsRunStatus (came present pending lost : ℕ) (waiting stopping : Bool) (seconds : ℕ) (server : ServerStatus)
+    (counts : RunCounts) (run : RunStatus) : Type 0 where
   pub connecting : run.connecting ≡ counted pending
   pub in_session : run.open ≡ counted present - counted pending
   pub served : run.served ≡ (came - counted present) - lost
@@ -33,6 +37,8 @@ pub record IsRunStatus (came present pending lost : ℕ) (waiting stopping : Boo
   pub has_waiting : run.has_waiting ≡ waiting
   pub is_stopping : run.is_stopping ≡ stopping
   pub up : run.seconds ≡ seconds
+  pub known : run.server ≡ server
+  pub counted : run.counts ≡ counts
 
 -- The row of the session of a bot: its number, the bot's address, its status, the bytes that the sockets of its bot and of the
 -- server hold, and the seconds since the last byte of each at this reading of the clock.

@@ -46,7 +46,8 @@ pub struct Acceptor {
     is_closed: bool,
     /// The number of bots accepted.
     came: u32,
-    /// The further descriptors that must be free for an accept: for the connection, for that to the server, and for a record.
+    /// The further descriptors that must be free for an accept: for the connection, for that to the server, for a record, and
+    /// one that is left to a control connection.
     descriptors: usize,
 }
 
@@ -80,7 +81,7 @@ impl Acceptor {
             awaits_bots: false,
             is_closed: false,
             came: 0,
-            descriptors: 2,
+            descriptors: 3,
         })
     }
 
@@ -88,7 +89,7 @@ impl Acceptor {
     pub(crate) fn set_recorded(&mut self, is_recorded: bool)
         ensures { self.new ≡ record self.old { descriptors = descriptors_for is_recorded } }
     {
-        self.descriptors = if is_recorded { 3 } else { 2 };
+        self.descriptors = if is_recorded { 4 } else { 3 };
     }
 
     /// Begins a round, in which it was not asked for a bot yet. Ends the pause after a failed accept, if its time is over
@@ -309,6 +310,8 @@ pub(crate) struct PendingConnection<'w, S: Drop> {
     gives_up: Option<Instant>,
     /// The deadline of the initial message.
     im_due: Option<Instant>,
+    /// Why the connect to the address that was tried last failed; `None` if it did not, or not yet.
+    failure: Option<ErrorKind>,
 }
 
 impl<'w, S: Drop> Model for PendingConnection<'w, S> {
@@ -346,15 +349,20 @@ pub(crate) fn pending_count<S: Drop>(arrivals: &[Option<PendingConnection<'_, S>
 pub(crate) struct Unreached<'w, S: Drop> {
     pub identity: Bot,
     pub bot: Socket<'w, S>,
+    /// The number of addresses tried.
+    pub tried: usize,
+    /// Why the connect to the last of them failed; `None` if it had no result.
+    pub failure: Option<ErrorKind>,
 }
 
 /// Starts a connect to the next address that permits one, and returns its connection, followed under this key. Returns
-/// `None` if no address is left.
+/// `None` if no address is left. `failure` is then the error of the last connect that did not begin.
 fn begun<N: Network>(
     poller: &mut Poller<N>,
     servers: &[SocketAddr],
     key: usize,
     tried: &mut usize,
+    failure: &mut Option<ErrorKind>,
 ) -> Option<N::Connection>
     ensures connects { IfSome result (λ begun. ConnectsTo N.transition servers.now begun key poller.new.network) }
     ensures calls { (count : ℕ) × (tried.new ≡ tried.old + count)
@@ -365,10 +373,14 @@ fn begun<N: Network>(
 {
     while let Some(address) = servers.get(*tried) {
         *tried += 1;
-        let Ok(stream) = poller.network.connect(*address) else {
-            continue;
+        *failure = None;
+        let mut stream = match poller.network.connect(*address) {
+            Ok(stream) => stream,
+            Err(error) => {
+                *failure = Some(error.kind());
+                continue;
+            }
         };
-        let mut stream = stream;
         if poller.follow(&mut stream, key) {
             return Some(stream);
         }
@@ -416,8 +428,8 @@ impl<'w, S: Duplex + Drop> PendingConnection<'w, S> {
         let (im_time, connect_time) = times;
         let gives_up = poller.table.after(connect_time);
         let im_due = poller.table.after(im_time);
-        let mut tried = 0;
-        let begun = begun(poller, servers, key, &mut tried);
+        let (mut tried, mut failure) = (0, None);
+        let begun = begun(poller, servers, key, &mut tried, &mut failure);
         let server = connecting(begun, key, bot.pool);
         PendingConnection {
             identity,
@@ -426,6 +438,7 @@ impl<'w, S: Duplex + Drop> PendingConnection<'w, S> {
             tried,
             gives_up,
             im_due,
+            failure,
         }
     }
 
@@ -469,6 +482,7 @@ impl<'w, S: Duplex + Drop> PendingConnection<'w, S> {
             return ConnectStatus::Pending;
         }
         let report = poller.network.connect_report(server.connection());
+        self.failure = report.failure;
         let status = report.status();
         if status == ConnectStatus::Pending {
             server.readiness.may_write = false;
@@ -491,7 +505,7 @@ impl<'w, S: Duplex + Drop> PendingConnection<'w, S> {
         ensures table { ChangesRows (λ row. row ≡ key) poller.old.table poller.new.table }
     {
         self.server = None;
-        let begun = begun(poller, servers, key, &mut self.tried);
+        let begun = begun(poller, servers, key, &mut self.tried, &mut self.failure);
         self.server = connecting(begun, key, self.bot.pool);
     }
 
@@ -504,6 +518,7 @@ impl<'w, S: Duplex + Drop> PendingConnection<'w, S> {
     {
         if table.is_over(self.gives_up) {
             self.server = None;
+            self.failure = None;
         }
     }
 
@@ -581,12 +596,18 @@ impl<'w, S: Duplex + Drop> PendingConnection<'w, S> {
             identity,
             bot,
             server,
-            tried: _,
+            tried,
             gives_up: _,
             im_due,
+            failure,
         } = self;
         let Some(server) = server else {
-            return Err(Unreached { identity, bot });
+            return Err(Unreached {
+                identity,
+                bot,
+                tried,
+                failure,
+            });
         };
         Ok(SocketPorts::new(identity, (bot, server), now, im_due, times))
     }
@@ -599,10 +620,16 @@ impl<'w, S: Duplex + Drop> PendingConnection<'w, S> {
             identity,
             bot,
             server: _,
-            tried: _,
+            tried,
             gives_up: _,
             im_due: _,
+            failure,
         } = self;
-        Unreached { identity, bot }
+        Unreached {
+            identity,
+            bot,
+            tried,
+            failure,
+        }
     }
 }

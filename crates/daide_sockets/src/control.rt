@@ -29,8 +29,8 @@ use std::time::{Duration, Instant};
 /// The most control connections at once. Further ones wait in the system's queue.
 pub const MOST_CONTROLS: usize = 4;
 
-/// The descriptors that must be free for an accept: for the connection, and one more, so that it never takes the last.
-const CONTROL_DESCRIPTORS: usize = 2;
+/// The descriptors that must be free for an accept: one for the connection. An accept of a bot leaves one.
+const CONTROL_DESCRIPTORS: usize = 1;
 
 /// The number of seconds after which a control connection is closed.
 const CONTROL_SECONDS: u64 = 2;

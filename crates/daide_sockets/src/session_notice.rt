@@ -1,8 +1,7 @@
 //! The log lines about the sessions of a run, which `--verbose` requests.
 
 ghost use Rattle.std.specs.Prelude.{◌≡◌, Some};
-ghost use Rattle.daide_protocol.specs.Account.{nothing_accounted};
-ghost use Rattle.daide_sockets.specs.Lines.{why_by, why_ended, milliseconds_between};
+ghost use Rattle.daide_sockets.specs.Lines.{end_cause_of, why_by, why_ended, milliseconds_between};
 ghost use Rattle.daide_sockets.specs.Lines.{ending_text, lasted_text, line_of, notice_text, side_name, why_text};
 
 use crate::timed::Timed;
@@ -10,9 +9,10 @@ use daide_frame::code::Code;
 use daide_frame::per_side::PerSide;
 use daide_frame::side::Side;
 use daide_io::fault_field::{FaultCause, FaultField};
-use daide_io::system::{Cause, SessionEnd};
+use daide_io::system::Cause;
 use daide_protocol::account::Account;
 use daide_protocol::ending::Ending;
+use daide_status::EndCause;
 use std::fmt;
 use std::net::SocketAddr;
 use std::time::Instant;
@@ -121,40 +121,6 @@ impl fmt::Display for NoticeLine {
     }
 }
 
-impl SessionNotice {
-    /// Returns the line of a session that is over, from its number and its time, its end, the expired timeouts of its
-    /// two sockets, and the stall timeout in seconds.
-    pub fn of_end(
-        session: (u32, Lasted),
-        end: SessionEnd,
-        timed: &PerSide<Timed>,
-        stall_seconds: u32,
-    ) -> SessionNotice
-        ensures { result ≡ SessionNotice.Ended session.0 session.1 (why_by end.cause end.fault_field timed.now stall_seconds)
-            end.account }
-    {
-        let (number, lasted) = session;
-        SessionNotice::Ended {
-            number,
-            lasted,
-            why: why_of(end.cause, end.fault_field, timed, stall_seconds),
-            account: end.account,
-        }
-    }
-
-    /// Returns the line of a session whose server was unreachable, from its number and its time.
-    pub fn of_no_server(number: u32, lasted: Lasted) -> SessionNotice
-        ensures { result ≡ SessionNotice.Ended number lasted Why.NoServer nothing_accounted }
-    {
-        SessionNotice::Ended {
-            number,
-            lasted,
-            why: Why::NoServer,
-            account: Account::new(),
-        }
-    }
-}
-
 /// Why a session is over.
 #[derive(Clone, Copy, Debug, PartialEq, Eq)]
 pub enum Why {
@@ -166,6 +132,11 @@ pub enum Why {
     Stalled(Side, u32),
     /// Its server was unreachable.
     NoServer,
+}
+
+impl Why {
+    /// An operator stopped it.
+    pub(crate) const STOPPED: Why = Why::Ended(Cause::Session(Ending::Stopped), None);
 }
 
 /// Returns the reason for a session that the end of this side ended.
@@ -198,6 +169,27 @@ pub fn why_of(
         }
         Cause::Session(Ending::Fault(_, _)) => Why::Ended(cause, field),
         _ => Why::Ended(cause, None),
+    }
+}
+
+/// Returns the cause by which a session is counted that is over for this reason.
+pub(crate) fn end_cause(why: Why) -> EndCause
+    ensures { result ≡ end_cause_of why }
+{
+    match why {
+        Why::Ended(Cause::TurnsSpent, _) => EndCause::TurnsSpent,
+        Why::Ended(Cause::Session(ending), _) => match ending {
+            Ending::Ended(side) => EndCause::Ended(side),
+            Ending::Lost(side) => EndCause::Lost(side),
+            Ending::Final(side) => EndCause::Final(side),
+            Ending::Error(side) => EndCause::Error(side),
+            Ending::Fault(_, Code::ImTimeout) => EndCause::NoIm,
+            Ending::Fault(side, _) => EndCause::Fault(side),
+            Ending::Stopped => EndCause::Stopped,
+        },
+        Why::Silent(side) => EndCause::Silent(side),
+        Why::Stalled(side, _) => EndCause::Stalled(side),
+        Why::NoServer => EndCause::NoServer,
     }
 }
 

@@ -2,13 +2,15 @@
 
 ghost use Rattle.std.specs.Net.Socket.{socket_ip};
 ghost use Rattle.std.specs.Option.{is_some};
-ghost use Rattle.std.specs.Prelude.{◌≡◌, ◌≢◌, ◌⊎◌, ℕ, List, Option, ◌<◌, ◌||◌, ◌&&◌, IfSome, None, true, false, [], length, not, slice_get};
+ghost use Rattle.std.specs.Prelude.{◌≡◌, ◌≢◌, ◌⊎◌, ℕ, List, Option, ◌<◌, ◌||◌, ◌&&◌, IfSome, None, true, false, [], length, not, if◌then◌else◌, slice_get};
 ghost use Rattle.std.specs.declared.time.Duration.{Duration};
 ghost use Rattle.daide_frame.specs.declared.side.Side.TheVariants as Sides;
 ghost use Rattle.daide_io.specs.Ports.{TurnBegins};
 ghost use Rattle.daide_io.specs.ReadyQueue.{is_among, woken_all};
 ghost use Rattle.daide_io.specs.System.{Polls, Shows, Accepts, Connects, BeginsTurn, Rests, Retires, Notifies};
 ghost use Rattle.daide_status.specs.declared.snapshot.SessionRow.{SessionRow};
+ghost use Rattle.daide_protocol.specs.Account.{nothing_accounted};
+ghost use Rattle.daide_status.specs.Counts.{ending_counted, no_counts, session_counted};
 ghost use Rattle.daide_settings.specs.BotsInAll.{bots_in_all};
 ghost use Rattle.daide_settings.specs.Ranges.{host_of, may_come};
 ghost use Rattle.daide_sockets.specs.Accepting.{descriptors_for, is_bot_due, round_begun, BringsNoBot, HasConnected, IsUnreached};
@@ -17,12 +19,13 @@ ghost use Rattle.daide_sockets.specs.Capacity.{capacity_after};
 ghost use Rattle.daide_sockets.specs.ControlSlots.{Each, PlaceShows, places, arming_control};
 ghost use Rattle.daide_sockets.specs.Finishing.{FinishesAll};
 ghost use Rattle.daide_sockets.specs.Table.{arming_all};
-ghost use Rattle.daide_sockets.specs.Lines.{Logs, LogsNoBot, end_notice, no_server_notice, timed_of};
+ghost use Rattle.daide_sockets.specs.Lines.{Logs, LogsNoBot, end_cause_of, end_notice, no_bot_counted, timed_of, why_retired, why_unreached};
 ghost use Rattle.daide_sockets.specs.Lingering.{LooksAround, in_pass, GoOnFor, no_closing};
 ghost use Rattle.daide_sockets.specs.Pairing.{Arriving, ClosesBothAt, TakesOut, is_vacant, pending_connects};
 ghost use Rattle.daide_sockets.specs.Present.{AdmitsBot, HasRoomForOne, hosts_of, without_bot};
 ghost use Rattle.daide_sockets.specs.Rows.{AreRowsOf, KeepsClosingRows, closing_keys};
 ghost use Rattle.daide_sockets.specs.Scheduling.{BeginsListening, RunEvolves, pair_of, run_state};
+ghost use Rattle.daide_sockets.specs.ServerStates.{away_at, reached_at, untried_at};
 ghost use Rattle.daide_sockets.specs.Snapshot.{IsSessionRow};
 ghost use Rattle.daide_sockets.specs.Clock.{due_after, IsSeconds, IsIdleTime, is_past};
 ghost use Rattle.daide_sockets.specs.Table.{Table, IsPollTime, disarmed, key_of};
@@ -42,8 +45,9 @@ use crate::control::{Control, seconds_between};
 use crate::lingering_close::Closings;
 use crate::poller::Poller;
 use crate::ports::SocketPorts;
-use crate::present::Present;
-use crate::session_notice::{Lasted, NoticeLine, SessionNotice};
+use crate::present::{Bot, Present};
+use crate::server_state::KnownServer;
+use crate::session_notice::{Lasted, NoticeLine, SessionNotice, Why, end_cause, why_of};
 use crate::system::beginning::{Listening, RunLists};
 use crate::table::{SocketTable, server_key};
 use daide_buffered_io::pool::Pool;
@@ -54,8 +58,9 @@ use daide_io::network::Network;
 use daide_io::ready_queue::ReadyQueue;
 use daide_io::system::{Connect, Notice, Orders, SessionEnd, SessionStatus, System};
 use daide_settings::{AddressRange, Settings};
-use daide_status::SessionRow;
+use daide_status::{RunCounts, SessionRow};
 use std::alloc::{Allocator, Global};
+use std::io::Write;
 use std::net::SocketAddr;
 use std::time::Duration;
 
@@ -74,11 +79,12 @@ use std::time::Duration;
 /// past. It polls once, and watches the listener and each closing socket (`PollsForRun`) beside the places and the control
 /// socket. It blocks only if it may, and if nothing of these has work, until the nearest deadline. What it reported of a place
 /// stays in its rows until the session takes it. With a free place, exactly one accept is made if the listener is ready
-/// (`accept_next`: `made`) while the descriptors for its connection, its connect and its record are free, and no other call but
-/// connects for its bot. No other call of these sockets accepts one (`GoesBy`). If it
-/// brings no bot, it failed, or its bot may not come, or the system refused to follow its connection (`kept`). From then on the next poll is for bots too (`awaited`), so it does
-/// not block while an accept is due. A bot is accepted only if it may come by the settings, beside the hosts of those that are
-/// there. What is judged is the address that the network returned with its connection (`accept`: `admitted`). A bot that comes
+/// (`accept_next`: `made`) while the descriptors for its connection, its connect and its record are free, and one for a control
+/// connection, and no other call but connects for its bot. No other call of these sockets accepts one (`GoesBy`). If it brings
+/// no bot, it failed, or its bot may not come, or the system refused to follow its connection (`kept`). Each bot that was
+/// accepted and closed at once is counted, and its line is logged if sessions are, with its address and why. From then on the
+/// next poll is for bots too (`awaited`), so it does not block while an accept is due. A bot is accepted only if it may come by
+/// the settings, beside the hosts of those that are there. What is judged is the address that the network returned with its connection (`accept`: `admitted`). A bot that comes
 /// is added to those, with this address, which the ports of its session have for the records and the status (`IsJoined`). The end
 /// of its session removes it (`retire`: `present`), or that of its connect (`connected`: `leaves`), and no other call changes them.
 ///
@@ -90,7 +96,9 @@ use std::time::Duration;
 /// the settings (`new`: `idle_time`, `stall_time`). The ports of a connect begin with them, at the table's reading of
 /// the clock (`Schedules`). The place of a pending connect rests until the deadline of the connect.
 ///
-/// At the end of `poll` the control socket advances, and the next poll watches it (`take_orders`: `control`, `armed`). Once a
+/// At the end of `poll` the control socket advances, and the next poll watches it (`take_orders`: `control`, `armed`). What a poll
+/// returns as orders is what the control connections requested, by what that poll reported of them, and a status has the row of
+/// each session that is shown (`Controls`). No other call changes the control socket. Once a
 /// stop is requested, or all bots of the run came, the listener for bots is closed (`acceptor`, `closes`). Otherwise a poll at most
 /// ends the pause after a failed accept, once its time is over (`Schedules`). Once it is requested
 /// that sessions end now, each place is woken (`wake_stopped`), and a pending connect is given up (`connected`). The next turn of a
@@ -100,8 +108,9 @@ use std::time::Duration;
 ///
 /// Not said: that a poll ended because something came, and that the port in a row of a status is the connection's: the
 /// system returns it (`Network::local_address`). That held bytes are given up only after a failed write, or after
-/// `stall_seconds`, is read from `flush_at` and `give_up_stalled`. `SessionNotice::of_end` and `why_of` give the counts
-/// and the cause in a line of a session's end. Tests and `scripts/recorded` show that `--verbose` writes it.
+/// `stall_seconds`, is read from `flush_at` and `give_up_stalled`. Nor the lines of the server that is away or reached again, and
+/// those of the capacity: scenes compare them. Which lines `--verbose` writes of bots and of the ends of sessions is in the
+/// clauses `logged`, and what a run counts in `counted`.
 #[derive(Drop)]
 pub struct Sockets<'w, N: Network, E: Sink + Drop> {
     poller: Poller<N>,
@@ -132,6 +141,10 @@ pub struct Sockets<'w, N: Network, E: Sink + Drop> {
     present: Present,
     /// The number of bots whose server could not be reached.
     unreached: u32,
+    /// What the connects showed of the server.
+    server: KnownServer,
+    /// What the run counted.
+    counts: RunCounts,
     /// The control socket.
     control: Control<N::Connection>,
     /// The output for log lines.
@@ -171,6 +184,8 @@ impl<'w, N: Network, E: Sink + Drop> Sockets<'w, N, E> {
         ensures bots { IfSome result (λ sockets. (sockets.bots_in_all ≡ bots_in_all settings.now)
             × (sockets.acceptor.is_closed ≡ false)) }
         ensures none_present { IfSome result (λ sockets. sockets.present.bots.items ≡ []) }
+        ensures none_counted { IfSome result (λ sockets. (sockets.counts ≡ no_counts)
+            × (sockets.server ≡ untried_at sockets.poller.table.reading)) }
         ensures listens { IfSome result (λ sockets.
             BeginsListening N.transition sockets.poller.table resources.entry.0 sockets.poller.network) }
         ensures rows { AreRowsOf resources.entry.2 [] → IfSome result (λ sockets. AreRowsOf sockets.poller.table
@@ -188,6 +203,7 @@ impl<'w, N: Network, E: Sink + Drop> Sockets<'w, N, E> {
             acceptor,
             control,
         } = Listening::new(alloc, network, table)?;
+        let server = KnownServer::new(poller.table.now());
         Some(Sockets {
             poller,
             acceptor,
@@ -206,6 +222,8 @@ impl<'w, N: Network, E: Sink + Drop> Sockets<'w, N, E> {
             bots_in_all: settings.bots_in_all(),
             present,
             unreached: 0,
+            server,
+            counts: RunCounts::new(),
             control,
             errors,
             is_verbose: false,
@@ -498,7 +516,7 @@ impl<'w, N: Network, E: Sink + Drop> System<SocketPorts<'w, N::Connection>> for 
     ///
     /// `kept`: if a due accept brings no bot to a free place, and one more may be present, then it failed, or its bot may not come
     /// by its address, or the system refused to follow its connection. No other bot is dropped. The line of a bot that is dropped
-    /// is logged if sessions are, with its address and why, and no other line.
+    /// is logged if sessions are, with its address and why, and no other line. It is counted (`no_bot_counted`).
     fn accept(&mut self, place: usize) -> bool
         ensures transition { RunEvolves N.transition N.Connection.to_give N.Connection.taken N.Connection.calls
             (λ (ports : PortsOf N.Connection). ports)
@@ -512,9 +530,11 @@ impl<'w, N: Network, E: Sink + Drop> System<SocketPorts<'w, N::Connection>> for 
             (self.new.poller.network, self.new.arrivals.items, self.new.present)
             × Logs E.contents E.Fails self.old.is_verbose (SessionNotice.Began self.new.acceptor.came address) self.old.errors
             self.new.errors }
+        ensures counted { result ≡ true → self.new.counts ≡ self.old.counts }
         ensures absent { result ≡ false → self.new.present ≡ self.old.present }
         ensures kept { result ≡ false → (why : NoBotOf) × LogsNoBot E.contents E.Fails self.old.is_verbose why self.old.errors
-            self.new.errors × (is_bot_due self.old.poller.table self.old.acceptor ≡ false → why ≡ NoBot.NoneCame)
+            self.new.errors × (self.new.counts ≡ no_bot_counted why self.old.counts)
+            × (is_bot_due self.old.poller.table self.old.acceptor ≡ false → why ≡ NoBot.NoneCame)
             × (place < length self.old.poller.table.deadlines → is_vacant self.old.arrivals.items place ≡ true →
             self.old.acceptor.came < u32.MAX → is_bot_due self.old.poller.table self.old.acceptor ≡ true → HasRoomForOne self.old.present →
             BringsNoBot N.transition self.old.acceptor.descriptors (λ address. may_come self.old.allow.now self.old.max_per_address
@@ -525,6 +545,7 @@ impl<'w, N: Network, E: Sink + Drop> System<SocketPorts<'w, N::Connection>> for 
           acceptor = self.new.acceptor;
           arrivals = self.new.arrivals;
           present = self.new.present;
+          counts = self.new.counts;
           errors = self.new.errors;
         } }
     {
@@ -542,6 +563,9 @@ impl<'w, N: Network, E: Sink + Drop> System<SocketPorts<'w, N::Connection>> for 
     ///
     /// `present`, `leaves`: those present are the same, except for a bot whose connect is given up. The line of the end of its
     /// session is logged if sessions are.
+    ///
+    /// `reached`, `counted`, `kept`: a server that was reached is up, and one that was not is away, unless sessions end now. A
+    /// connect that is given up counts as an end, by no server or by the stop.
     ///
     /// `transition`: it makes only calls of a connect: one begins, is asked for its state, or a socket is followed. So it accepts
     /// no bot and closes no listener (`GoesBy`). Each connection that a connect began is followed
@@ -563,17 +587,26 @@ impl<'w, N: Network, E: Sink + Drop> System<SocketPorts<'w, N::Connection>> for 
         ensures connected { (ports : PortsOf N.Connection) → result ≡ Connect.Ready ports → HasConnected N.transition
             ports.sides.server.stream.stream self.old.poller.network self.new.poller.network }
         ensures present { result ≢ Connect.Failed → self.new.present ≡ self.old.present }
+        ensures kept { result ≡ Connect.Pending → (self.new.server ≡ self.old.server) × (self.new.counts ≡ self.old.counts) }
+        ensures reached { (ports : PortsOf N.Connection) → result ≡ Connect.Ready ports →
+            (self.new.server ≡ reached_at self.old.poller.table.reading self.old.server) × (self.new.counts ≡ self.old.counts) }
+        ensures counted { result ≡ Connect.Failed →
+            (self.new.counts ≡ ending_counted (end_cause_of (why_unreached self.old.control.stops_now)) self.old.counts)
+            × (self.new.server ≡ (if self.old.control.stops_now then self.old.server
+            else away_at self.old.poller.table.reading self.old.server)) }
         ensures leaves { result ≡ Connect.Failed → (arrival : Arriving N.Connection)
             × TakesOut self.old.arrivals.items place arrival self.new.arrivals.items
             × (self.new.present.bots.items ≡ without_bot arrival.identity.number self.old.present.bots.items)
-            × Logs E.contents E.Fails self.old.is_verbose (no_server_notice arrival.identity self.old.poller.table.reading)
-            self.old.errors self.new.errors }
+            × (noted : E) × Logs E.contents E.Fails self.old.is_verbose (end_notice arrival.identity self.old.poller.table.reading
+            (why_unreached self.old.control.stops_now) nothing_accounted) noted self.new.errors }
         ensures same { self.new ≡ record self.old {
           poller = self.new.poller;
           arrivals = self.new.arrivals;
           closings = self.new.closings;
           present = self.new.present;
           unreached = self.new.unreached;
+          server = self.new.server;
+          counts = self.new.counts;
           errors = self.new.errors;
         } }
     {
@@ -583,7 +616,7 @@ impl<'w, N: Network, E: Sink + Drop> System<SocketPorts<'w, N::Connection>> for 
         };
         let mut arrival = arrival;
         if self.control.stops_now() {
-            self.let_go(place, arrival.give_up());
+            self.let_go(place, arrival.give_up(), Why::STOPPED);
             self.poller.table.is_bounded();
             return Connect::Failed;
         }
@@ -596,12 +629,14 @@ impl<'w, N: Network, E: Sink + Drop> System<SocketPorts<'w, N::Connection>> for 
         let now = self.poller.table.now();
         match arrival.join(now, (self.idle_time, self.stall_time)) {
             Ok(ports) => {
+                self.note_reached();
                 self.log_server(&ports);
                 self.poller.table.is_bounded();
                 Connect::Ready(ports)
             }
             Err(left) => {
-                self.let_go(place, left);
+                self.note_away(left.tried, left.failure);
+                self.let_go(place, left, Why::NoServer);
                 self.poller.table.is_bounded();
                 Connect::Failed
             }
@@ -613,6 +648,8 @@ impl<'w, N: Network, E: Sink + Drop> System<SocketPorts<'w, N::Connection>> for 
     /// `transition`: it makes no call of the network but those that follow these two sockets (`GoesBy`).
     ///
     /// `logged`: the line of its end is logged if sessions are: with its number, its time, its cause and its counts.
+    ///
+    /// `counted`: its frames and its faults are added to those of the run, and its end counts by its cause.
     fn retire(&mut self, place: usize, ports: SocketPorts<'w, N::Connection>, end: SessionEnd)
         ensures transition { RunEvolves N.transition N.Connection.to_give N.Connection.taken N.Connection.calls
             (λ (ports : PortsOf N.Connection). ports)
@@ -624,22 +661,33 @@ impl<'w, N: Network, E: Sink + Drop> System<SocketPorts<'w, N::Connection>> for 
             self.old.poller.table.reading self.old.closings (pair_of ports.entry) self.new.closings }
         ensures present { self.new.present.bots.items ≡ without_bot ports.entry.identity.number self.old.present.bots.items }
         ensures logged { Logs E.contents E.Fails self.old.is_verbose (end_notice ports.entry.identity self.old.poller.table.reading
-            end (timed_of ports.entry.sides) self.old.stall_seconds) self.old.errors self.new.errors }
+            (why_retired end (timed_of ports.entry.sides) self.old.stall_seconds) end.account) self.old.errors self.new.errors }
+        ensures counted { self.new.counts ≡ ending_counted
+            (end_cause_of (why_retired end (timed_of ports.entry.sides) self.old.stall_seconds))
+            (session_counted end.account self.old.counts) }
         ensures same { self.new ≡ record self.old {
           poller = self.new.poller;
           closings = self.new.closings;
           present = self.new.present;
+          counts = self.new.counts;
           errors = self.new.errors;
         } }
     {
-        let identity = ports.identity();
-        self.present.remove(identity.number);
-        let lasted = Lasted::between(identity.since, self.poller.table.now());
-        let session = (identity.number, lasted);
+        let Bot { number, since, .. } = ports.identity();
+        self.present.remove(number);
+        let lasted = Lasted::between(since, self.poller.table.now());
         let sockets = ports.sockets();
         let timed = PerSide::new(sockets.at(Side::Bot).timed, sockets.at(Side::Server).timed);
-        let notice = SessionNotice::of_end(session, end, &timed, self.stall_seconds);
-        self.log_session(notice);
+        let why = why_of(end.cause, end.fault_field, &timed, self.stall_seconds);
+        let account = end.account;
+        self.counts.add_session(&account);
+        self.counts.count_end(end_cause(why));
+        self.log_session(SessionNotice::Ended {
+            number,
+            lasted,
+            why,
+            account,
+        });
         self.poller.table.forget(place);
         self.closings.begin_both(&mut self.poller, place, ports);
         self.poller.table.is_bounded();
@@ -655,8 +703,8 @@ impl<'w, N: Network, E: Sink + Drop> System<SocketPorts<'w, N::Connection>> for 
         ensures same { self.new ≡ record self.old { errors = self.new.errors } }
     {
         self.poller.table.is_bounded();
-        // Once sessions end at an operator's request, no connect is tried, so the server was not unreachable.
-        if self.control.stops_now() && notice == Notice::CannotReach {
+        // `connected` logs when the server is away, and when it is reached again.
+        if notice == Notice::CannotReach {
             return;
         }
         // The run goes on if the line cannot be written.

@@ -5,14 +5,17 @@ ghost use Rattle.std.specs.Net.Socket.{socket_ip};
 ghost use Rattle.std.specs.Prelude.{◌≡◌, ◌<◌, ◌≤◌, ◌&&◌, nat_lt, IfOk, IfErr, IfSome, IfNone, None, Some, Err, true, false, length, slice_set};
 ghost use Rattle.daide_io.specs.System.{Accepts};
 ghost use Rattle.daide_frame.specs.declared.side.Side.TheVariants.{Server};
+ghost use Rattle.daide_protocol.specs.Account.{nothing_accounted};
+ghost use Rattle.daide_status.specs.Counts.{ending_counted};
 ghost use Rattle.daide_settings.specs.Ranges.{host_of, may_come};
 ghost use Rattle.daide_sockets.specs.Accepting.{is_bot_due, AcceptsThenConnects, BringsNoBot, GivesConnection};
 ghost use Rattle.daide_sockets.specs.KeptRows.{ChangesRows, IsAcceptRow};
-ghost use Rattle.daide_sockets.specs.Lines.{Logs, LogsNoBot, no_server_notice};
+ghost use Rattle.daide_sockets.specs.Lines.{Logs, LogsNoBot, end_cause_of, end_notice, no_bot_counted};
 ghost use Rattle.daide_sockets.specs.Pairing.{ClosesAt, Comes, ComesWith, TakesOut, arrival_at, is_vacant};
 ghost use Rattle.daide_sockets.specs.Present.{AdmitsBot, HasRoomForOne, hosts_of, without_bot};
 ghost use Rattle.daide_sockets.specs.Rows.{KeepsClosingRows, closing_keys};
 ghost use Rattle.daide_sockets.specs.Scheduling.{RunEvolves, run_state};
+ghost use Rattle.daide_sockets.specs.ServerStates.{away_at, reached_at};
 ghost use Rattle.daide_sockets.specs.Table.{forgotten, key_of};
 ghost use Rattle.daide_sockets.specs.Wakeups.{GoesBy, is_of_connect};
 ghost use Rattle.daide_sockets.specs.declared.admission.NoBot.{NoBot as NoBotOf};
@@ -21,11 +24,14 @@ ghost use Rattle.daide_sockets.specs.declared.ports.SocketPorts.{SocketPorts as 
 use super::Sockets;
 use crate::admission::{NoBot, PendingConnection, Unreached};
 use crate::ports::SocketPorts;
-use crate::session_notice::{Lasted, SessionNotice};
+use crate::session_notice::{Lasted, SessionNotice, Why, end_cause};
 use crate::table::{bot_key, server_key};
 use daide_causes::Sink;
 use daide_frame::side::Side;
 use daide_io::network::Network;
+use daide_protocol::account::Account;
+use daide_status::{ServerState, ServerStatus};
+use std::io::{ErrorKind, Write};
 use std::net::SocketAddr;
 
 impl<'w, N: Network, E: Sink + Drop> Sockets<'w, N, E> {
@@ -40,26 +46,84 @@ impl<'w, N: Network, E: Sink + Drop> Sockets<'w, N, E> {
         }
     }
 
-    /// Logs the bot that was accepted and closed at once, if there is one and sessions are logged, and why.
-    fn log_no_bot(&mut self, why: NoBot)
+    /// Counts the bot that was accepted and closed at once, if there is one, and logs why, if sessions are logged.
+    fn note_no_bot(&mut self, why: NoBot)
+        ensures counted { self.new.counts ≡ no_bot_counted why self.old.counts }
         ensures logged { LogsNoBot E.contents E.Fails self.old.is_verbose why self.old.errors self.new.errors }
-        ensures same { self.new ≡ record self.old { errors = self.new.errors } }
+        ensures same { self.new ≡ record self.old { errors = self.new.errors; counts = self.new.counts } }
     {
         match why {
             NoBot::NoneCame => {}
-            NoBot::MayNotCome(bot) => self.log_session(SessionNotice::Declined { bot }),
-            NoBot::NotFollowed(bot) => self.log_session(SessionNotice::Dropped { bot }),
+            NoBot::MayNotCome(bot) => {
+                self.counts.count_declined();
+                self.log_session(SessionNotice::Declined { bot });
+            }
+            NoBot::NotFollowed(bot) => {
+                self.counts.count_dropped();
+                self.log_session(SessionNotice::Dropped { bot });
+            }
         }
     }
 
-    /// Ends the session of a bot whose server was unreachable, and starts the close of its socket.
-    pub(super) fn let_go(&mut self, place: usize, left: Unreached<'w, N::Connection>)
+    /// Notes that the server was reached, and logs it if it could not be reached before.
+    pub(super) fn note_reached(&mut self)
+        ensures server { self.new.server ≡ reached_at self.old.poller.table.reading self.old.server }
+        ensures same { self.new ≡ record self.old { errors = self.new.errors; server = self.new.server } }
+    {
+        let now = self.poller.table.now();
+        let before = self.server;
+        self.server = before.reached(now);
+        if matches!(before.state, ServerState::Away) {
+            let ServerStatus {
+                seconds,
+                unreached,
+                ..
+            } = before.status(now);
+            // The run goes on if the line cannot be written.
+            let _ = writeln!(
+                self.errors,
+                "daide-gate: server reached again after {unreached} bots and {seconds} s"
+            );
+        }
+    }
+
+    /// Notes that the server could not be reached, and logs it if no bot noted that before: the address that was tried last, and
+    /// why that failed.
+    pub(super) fn note_away(&mut self, tried: usize, failure: Option<ErrorKind>)
+        ensures server { self.new.server ≡ away_at self.old.poller.table.reading self.old.server }
+        ensures same { self.new ≡ record self.old { errors = self.new.errors; server = self.new.server } }
+    {
+        let before = self.server.state;
+        self.server = self.server.away(self.poller.table.now());
+        if matches!(before, ServerState::Away) {
+            return;
+        }
+        let Some(address) = self.servers.get(tried.saturating_sub(1)) else {
+            return;
+        };
+        // The run goes on if the line cannot be written.
+        let _ = match failure {
+            Some(kind) => writeln!(
+                self.errors,
+                "daide-gate: server {address} cannot be reached: {kind}"
+            ),
+            None => writeln!(
+                self.errors,
+                "daide-gate: server {address} cannot be reached: no answer in {} s",
+                self.connect_time.as_secs()
+            ),
+        };
+    }
+
+    /// Ends the session of a bot for which no server was reached, for this reason, and starts the close of its socket.
+    pub(super) fn let_go(&mut self, place: usize, left: Unreached<'w, N::Connection>, why: Why)
         ensures closes { ClosesAt N.Connection.to_give N.Connection.taken N.Connection.calls
             self.old.poller.table.reading self.old.closings left.entry.bot.stream self.new.closings }
         ensures present { self.new.present.bots.items ≡ without_bot left.entry.identity.number self.old.present.bots.items }
         ensures clock { self.new.poller.table.reading ≡ self.old.poller.table.reading }
+        ensures counted { self.new.counts ≡ ending_counted (end_cause_of why) self.old.counts }
         ensures logged { Logs E.contents E.Fails self.old.is_verbose
-            (no_server_notice left.entry.identity self.old.poller.table.reading) self.old.errors self.new.errors }
+            (end_notice left.entry.identity self.old.poller.table.reading why nothing_accounted) self.old.errors self.new.errors }
         ensures calls { GoesBy is_of_connect N.transition self.old.poller.network self.new.poller.network }
         ensures rows { KeepsClosingRows (forgotten self.old.poller.table place) (closing_keys self.old.closings.streams)
             self.new.poller.table (closing_keys self.new.closings.streams) }
@@ -68,16 +132,23 @@ impl<'w, N: Network, E: Sink + Drop> Sockets<'w, N, E> {
           closings = self.new.closings;
           present = self.new.present;
           unreached = self.new.unreached;
+          counts = self.new.counts;
           errors = self.new.errors;
         } }
     {
         self.poller.table.forget(place);
-        let Unreached { identity, bot } = left;
-        let lasted = Lasted::between(identity.since, self.poller.table.now());
-        self.present.remove(identity.number);
+        let number = left.identity.number;
+        let lasted = Lasted::between(left.identity.since, self.poller.table.now());
+        self.present.remove(number);
         self.unreached = self.unreached.saturating_add(1);
-        self.log_session(SessionNotice::of_no_server(identity.number, lasted));
-        self.closings.begin(&mut self.poller, bot);
+        self.counts.count_end(end_cause(why));
+        self.log_session(SessionNotice::Ended {
+            number,
+            lasted,
+            why,
+            account: Account::new(),
+        });
+        self.closings.begin(&mut self.poller, left.bot);
     }
 
     /// Takes out the bot at a place whose connect is under way, if there is one.
@@ -128,8 +199,8 @@ impl<'w, N: Network, E: Sink + Drop> Sockets<'w, N, E> {
     /// Fails if no bot came, and says why. The connection of one that may not come, or that the system refuses to follow, is
     /// closed.
     ///
-    /// `made`: with room for one more, exactly one accept is made if the listener is ready by the table, and no pause is
-    /// under way. Then only connects for its bot begin, so no other bot is accepted and dropped.
+    /// `made`: with room for one more, exactly one accept is tried if the listener is ready by the table, and no pause is
+    /// under way; it is made if its descriptors are free. Then only connects for its bot begin, so no other bot is accepted and dropped.
     ///
     /// `not_made`: otherwise no call is made.
     ///
@@ -237,9 +308,11 @@ impl<'w, N: Network, E: Sink + Drop> Sockets<'w, N, E> {
             (self.new.poller.network, self.new.arrivals.items, self.new.present)
             × Logs E.contents E.Fails self.old.is_verbose (SessionNotice.Began self.new.acceptor.came address) self.old.errors
             self.new.errors }
+        ensures counted { result ≡ true → self.new.counts ≡ self.old.counts }
         ensures absent { result ≡ false → self.new.present ≡ self.old.present }
         ensures kept { result ≡ false → (why : NoBotOf) × LogsNoBot E.contents E.Fails self.old.is_verbose why self.old.errors
-            self.new.errors × (is_bot_due self.old.poller.table self.old.acceptor ≡ false → why ≡ NoBot.NoneCame)
+            self.new.errors × (self.new.counts ≡ no_bot_counted why self.old.counts)
+            × (is_bot_due self.old.poller.table self.old.acceptor ≡ false → why ≡ NoBot.NoneCame)
             × (place < length self.old.poller.table.deadlines → is_vacant self.old.arrivals.items place ≡ true →
             self.old.acceptor.came < u32.MAX → is_bot_due self.old.poller.table self.old.acceptor ≡ true → HasRoomForOne self.old.present →
             BringsNoBot N.transition self.old.acceptor.descriptors (λ address. may_come self.old.allow.now self.old.max_per_address
@@ -250,13 +323,14 @@ impl<'w, N: Network, E: Sink + Drop> Sockets<'w, N, E> {
           acceptor = self.new.acceptor;
           arrivals = self.new.arrivals;
           present = self.new.present;
+          counts = self.new.counts;
           errors = self.new.errors;
         } }
     {
         let began = match self.accept_next(place) {
             Ok(began) => began,
             Err(why) => {
-                self.log_no_bot(why);
+                self.note_no_bot(why);
                 self.poller.table.is_bounded();
                 return false;
             }

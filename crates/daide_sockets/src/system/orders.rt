@@ -7,6 +7,7 @@ ghost use Rattle.daide_sockets.specs.Accepting.{is_bot_due, shut_if, ClosesOrNot
 ghost use Rattle.daide_sockets.specs.ControlSlots.{BeginsRound, IsControlRow, places, arming_control, is_listener_due};
 ghost use Rattle.daide_sockets.specs.KeptRows.{ChangesRows};
 ghost use Rattle.daide_sockets.specs.Pairing.{pending_connects};
+ghost use Rattle.daide_sockets.specs.ServerStates.{server_shown};
 ghost use Rattle.daide_sockets.specs.Snapshot.{counted, seconds_between, or_zero, IsRunStatus};
 ghost use Rattle.daide_sockets.specs.Table.{Table};
 ghost use Rattle.daide_sockets.specs.Wakeups.{GoesBy, is_after_poll};
@@ -32,7 +33,8 @@ impl<'w, N: Network, E: Sink + Drop> Sockets<'w, N, E> {
             (pending_connects self.now.arrivals.items) self.now.unreached
             (nat_le self.now.max_sessions (length self.now.present.bots.items)
             && is_bot_due self.now.poller.table self.now.acceptor) self.now.control.stops_accepting
-            (or_zero (seconds_between self.now.control.started_at self.now.poller.table.reading)) result }
+            (or_zero (seconds_between self.now.control.started_at self.now.poller.table.reading))
+            (server_shown self.now.poller.table.reading self.now.server) self.now.counts result }
     {
         let connecting = counted(pending_count(self.arrivals.as_slice()));
         let present = counted(self.present.len());
@@ -48,6 +50,8 @@ impl<'w, N: Network, E: Sink + Drop> Sockets<'w, N, E> {
             has_waiting: self.has_waiting(),
             is_stopping: self.control.stops_accepting(),
             seconds: self.control.seconds(self.poller.table.now()),
+            server: self.server.status(self.poller.table.now()),
+            counts: self.counts,
         }
     }
 
@@ -97,7 +101,8 @@ impl<'w, N: Network, E: Sink + Drop> Sockets<'w, N, E> {
             (length self.old.present.bots.items) (pending_connects self.old.arrivals.items) self.old.unreached
             (nat_le self.old.max_sessions (length self.old.present.bots.items)
             && is_bot_due self.old.poller.table self.old.acceptor) self.old.control.stops_accepting
-            (or_zero (seconds_between self.old.control.started_at self.old.poller.table.reading)) run
+            (or_zero (seconds_between self.old.control.started_at self.old.poller.table.reading))
+            (server_shown self.old.poller.table.reading self.old.server) self.old.counts run
             × (after : N) × BeginsRound N.transition N.Connection.to_give N.Connection.taken N.Connection.calls run
             self.old.poller.table self.old.poller.network self.old.control result after self.new.control
             × ClosesOrNot N.transition after self.new.poller.network }

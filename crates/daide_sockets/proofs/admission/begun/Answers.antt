@@ -6,16 +6,16 @@ use Rattle.daide_sockets.proofs.AcceptLemmas.{connects_on}
 use Rattle.daide_sockets.proofs.KeptRowLemmas.{changes_then, freed_changes, freed_unknown}
 use Rattle.daide_sockets.proofs.admission.begun.Goals as goal
 
-pub loop-address-preserved-in_default-connect : goal.loop-address-preserved-in_default-connect
-loop-address-preserved-in_default-connect g c = record {
+pub loop-address-preserved-in-Err : goal.loop-address-preserved-in-Err
+loop-address-preserved-in-Err g c = record {
   table = c.loop-address.invariant.table;
   calls = connects_on g.N.Network.transition c.args.servers.now c.args.key c.args.tried.now c.loop-address.tried
       c.loop-address.invariant.calls.0 c.in-Some.address.now _ _ _ c.loop-address.invariant.calls.1
       (slice_get_read _ _ _ _ refl c.in-Some.ensures.lookup.3.0 c.in-Some.ensures.lookup.1)
       c.loop-address.invariant.calls.2 (record {
-        begun = Err c.in_default-connect.field-0;
+        begun = Err c.in-Err.error;
         mid = c.connect.new.self;
-        call = rw c.in_default-connect.is at c.connect.ensures;
+        call = rw c.in-Err.is at c.connect.ensures;
         rest = refl;
       });
 }

@@ -19,7 +19,7 @@ returns-in-Err-clause-made g c = λ due. LacksDescriptors c.in-Err.error (rw c.i
 
 pub returns-in-Err-clause-calls : goal.returns-in-Err-clause-calls
 returns-in-Err-clause-calls g c =
-    one g.N.Network.transition is_after_poll _ _ (ChecksDescriptors 2 c.check_descriptors.result) refl c.check_descriptors.ensures
+    one g.N.Network.transition is_after_poll _ _ (ChecksDescriptors 1 c.check_descriptors.result) refl c.check_descriptors.ensures
 
 pub returns-in-Err-clause-table : goal.returns-in-Err-clause-table
 returns-in-Err-clause-table g c = listener_reported _ _ _ c.control_key-own.ensures c.note_accept.ensures.table
@@ -32,7 +32,7 @@ returns-in-Err-accept_control-clause-made g c = λ due. Fails c.check_descriptor
 pub returns-in-Err-accept_control-clause-calls : goal.returns-in-Err-accept_control-clause-calls
 returns-in-Err-accept_control-clause-calls g c =
     both g.N.Network.transition is_after_poll _ _ _
-    (one g.N.Network.transition is_after_poll _ _ (ChecksDescriptors 2 c.check_descriptors.result) refl c.check_descriptors.ensures)
+    (one g.N.Network.transition is_after_poll _ _ (ChecksDescriptors 1 c.check_descriptors.result) refl c.check_descriptors.ensures)
     (one g.N.Network.transition is_after_poll _ _ (AcceptsControl c.accept_control.result) refl c.accept_control.ensures)
 
 pub returns-in-Err-accept_control-clause-table : goal.returns-in-Err-accept_control-clause-table
@@ -48,7 +48,7 @@ returns-then-not-follow-clause-made g c = λ due. IsRefused c.check_descriptors.
 pub returns-then-not-follow-clause-calls : goal.returns-then-not-follow-clause-calls
 returns-then-not-follow-clause-calls g c =
     both g.N.Network.transition is_after_poll _ _ _
-    (one g.N.Network.transition is_after_poll _ _ (ChecksDescriptors 2 c.check_descriptors.result) refl c.check_descriptors.ensures)
+    (one g.N.Network.transition is_after_poll _ _ (ChecksDescriptors 1 c.check_descriptors.result) refl c.check_descriptors.ensures)
     (both g.N.Network.transition is_after_poll _ _ _
     (one g.N.Network.transition is_after_poll _ _ (AcceptsControl c.accept_control.result) refl c.accept_control.ensures)
     (one g.N.Network.transition is_after_poll _ _ (Follows _ c.args.key c.follow.result _) refl c.follow.ensures.call))
@@ -65,7 +65,7 @@ returns-clause-made g c = λ due. IsFollowed c.check_descriptors.new.self c.acce
 pub returns-clause-calls : goal.returns-clause-calls
 returns-clause-calls g c =
     both g.N.Network.transition is_after_poll _ _ _
-    (one g.N.Network.transition is_after_poll _ _ (ChecksDescriptors 2 c.check_descriptors.result) refl c.check_descriptors.ensures)
+    (one g.N.Network.transition is_after_poll _ _ (ChecksDescriptors 1 c.check_descriptors.result) refl c.check_descriptors.ensures)
     (both g.N.Network.transition is_after_poll _ _ _
     (one g.N.Network.transition is_after_poll _ _ (AcceptsControl c.accept_control.result) refl c.accept_control.ensures)
     (one g.N.Network.transition is_after_poll _ _ (Follows _ c.args.key c.follow.result _) refl c.follow.ensures.call))

@@ -1,8 +1,7 @@
-use Rattle.std.proofs.Common.{◌≡◌, ℕ, List, Option, Result, Err, refl, ap, ◌∙◌}
+use Rattle.std.proofs.Common.{◌≡◌, Result, Err, refl, ap}
 use Rattle.daide_sockets.specs.declared.admission.NoBot.{NoBot}
 use Rattle.daide_sockets.specs.declared.admission.NoBot.TheVariants.{NoneCame}
 use Rattle.daide_sockets.specs.declared.session_notice.SessionNotice.{SessionNotice}
-use Rattle.daide_sockets.specs.Pairing.{Arriving, RunSockets}
 use Rattle.daide_sockets.proofs.KeptRowLemmas.{accept_beside, accept_holds, accept_others, same_deadlines}
 use Rattle.daide_sockets.proofs.PairingLemmas.{same_sockets}
 use Rattle.std.proofs.Common.{length}
@@ -15,13 +14,13 @@ pub returns-in-Err-clause-transition : goal.returns-in-Err-clause-transition
 returns-in-Err-clause-transition g c =
     let asked = c.accept_next.ensures in
     let none = c.in-Err.ensures.none in
-    rw (c.log_no_bot.ensures.same, asked.same) (λ held. (
+    rw (c.note_no_bot.ensures.same, asked.same) (λ held. (
       accept_holds _ _ c.args.place _ asked.table held,
       same_sockets _ _ _ _ _ none.0 none.1,
       (
         record {
           places = ap length (same_deadlines _ _ _ asked.table);
-          bounded = rw c.log_no_bot.ensures.same at c.is_bounded.ensures;
+          bounded = rw c.note_no_bot.ensures.same at c.is_bounded.ensures;
         },
         accept_others _ _ c.args.place asked.table,
       ),
@@ -49,9 +48,10 @@ pub returns-in-Err-clause-kept : goal.returns-in-Err-clause-kept
 returns-in-Err-clause-kept g c = λ none.
     let asked = c.accept_next.ensures in
     let why = c.in-Err.why in
-    rw c.log_no_bot.ensures.same (
+    rw c.note_no_bot.ensures.same (
       why,
-      rw asked.same at c.log_no_bot.ensures.logged,
+      rw asked.same at c.note_no_bot.ensures.logged,
+      rw asked.same at c.note_no_bot.ensures.counted,
       λ off. failed_is c.accept_next.result why NoneCame c.in-Err.is (asked.none_due off),
       c.in-Err.ensures.kept,
     )

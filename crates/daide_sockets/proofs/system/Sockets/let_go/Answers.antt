@@ -4,7 +4,6 @@ use Rattle.daide_protocol.specs.Account.{nothing_accounted}
 use Rattle.daide_sockets.specs.Lines.{milliseconds_between}
 use Rattle.daide_sockets.specs.Table.{Table}
 use Rattle.daide_sockets.specs.declared.session_notice.SessionNotice.TheVariants.{Ended}
-use Rattle.daide_sockets.specs.declared.session_notice.Why.TheVariants.{NoServer}
 use Rattle.daide_sockets.proofs.NetworkCallLemmas.{follows}
 use Rattle.daide_sockets.specs.Wakeups.{is_of_connect}
 use Rattle.daide_sockets.proofs.system.Sockets.let_go.Goals as goal
@@ -25,6 +24,6 @@ returns-clause-logged g c =
     let bot = c.args.left.identity in
     let now = c.now.ensures ∙ ap (λ (t : Table). t.reading) c.forget.ensures in
     let lasted = c.between-lasted.ensures ∙ ap (λ (now : Option Instant). milliseconds_between bot.since now) now in
-    let notice = c.of_no_server.ensures
-    ∙ ap (λ (time : Option ℕ). Ended bot.number (record { milliseconds = time }) NoServer nothing_accounted) lasted in
-    rw notice at c.log_session.ensures.logged
+    let notice =
+    ap (λ (time : Option ℕ). Ended bot.number (record { milliseconds = time }) c.args.why nothing_accounted) lasted in
+    rw (c.new.ensures, notice) at c.log_session.ensures.logged

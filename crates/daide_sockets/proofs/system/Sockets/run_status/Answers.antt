@@ -15,4 +15,6 @@ returns g c =
       has_waiting = search rules;
       is_stopping = search rules;
       up = search rules;
+      known = search rules;
+      counted = refl;
     }

@@ -1,4 +1,4 @@
-use Rattle.std.proofs.Common.{◌≡◌, ℕ, ◌+◌, ◌<◌, List, [], ◌∷◌, ◌++◌, refl, sym, ap, ◌∙◌, below_more, arith}
+use Rattle.std.proofs.Common.{[], ◌∷◌, ◌++◌, refl, sym, ap, ◌∙◌, below_more, arith}
 use Rattle.daide_io.specs.ReadyQueue.{ReadyView, woken}
 use Rattle.daide_io.proofs.ReadyLemmas.{woken_both}
 use Rattle.daide_sockets.proofs.RunPollLemmas.{among_last, among_more}

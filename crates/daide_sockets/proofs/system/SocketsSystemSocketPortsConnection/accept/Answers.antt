@@ -6,6 +6,7 @@ pub returns-then-not-is_due-clause-kept : goal.returns-then-not-is_due-clause-ke
 returns-then-not-is_due-clause-kept g c = λ none. (
   NoneCame,
   refl,
+  refl,
   λ off. refl,
   λ lt free few due. absurd (let known = c.is_due.ensures in let off = c.if-not-is_due.true in cc),
 )

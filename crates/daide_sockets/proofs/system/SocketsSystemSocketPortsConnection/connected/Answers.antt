@@ -1,7 +1,6 @@
-use Rattle.std.proofs.Common.{length, refl, ap, ◌∙◌, subst}
+use Rattle.std.proofs.Common.{length, refl, sym, ap, ◌∙◌, subst}
 use Rattle.daide_frame.specs.declared.side.Side.TheVariants.{Bot, Server}
 use Rattle.daide_sockets.specs.Pairing.{arrival_at}
-use Rattle.daide_sockets.specs.declared.present.Bot.{Bot as Accepted}
 use Rattle.daide_sockets.specs.Table.{Table, key_of, report_at}
 use Rattle.daide_sockets.proofs.AcceptLemmas.{unreached}
 use Rattle.daide_sockets.proofs.ConnectLemmas.{connected_joins, connected_reports, connected_to, ready_is, key_fits, rests_for, rests_unchanged}
@@ -62,7 +61,8 @@ pub returns-then-stops_now-clause-leaves : goal.returns-then-stops_now-clause-le
 returns-then-stops_now-clause-leaves g c = λ failed.
     let present = rw (c.give_up.ensures.0, c.take_arrival.ensures.same) at c.let_go.ensures.present in
     let logged = rw (c.give_up.ensures.0, c.take_arrival.ensures.same) at c.let_go.ensures.logged in
-    rw c.let_go.ensures.same (c.in-Some.arrival, c.in-Some.ensures.some, present, logged)
+    let on = rw c.take_arrival.ensures.same at (sym c.stops_now.ensures ∙ c.if-stops_now.true) in
+    rw (c.let_go.ensures.same, on) (c.in-Some.arrival, c.in-Some.ensures.some, present, c.args.self.now.errors, logged)
 
 -- it is still pending: its place rests
 pub returns-then-advances-clause-transition : goal.returns-then-advances-clause-transition
@@ -124,13 +124,13 @@ returns-in-Ok-clause-transition g c =
     let begins = rw (reading, c.take_arrival.ensures.same) at c.in-Ok.ensures.begins in
     let joined = connected_joins c.in-Some.arrival c.advances.new.self _ (c.advances.ensures.reached c.if-advances.false)
     c.in-Ok.ensures.joined in
-    rw (c.log_server.ensures, c.take_arrival.ensures.same) (λ held. (
+    rw (c.log_server.ensures, c.note_reached.ensures.same, c.take_arrival.ensures.same) (λ held. (
       connect_holds _ _ c.args.place _ _ lt key table held,
       (c.in-Some.arrival, c.in-Some.ensures.some, joined, refl, refl),
       (
         record {
           places = ap length (same_deadlines _ _ _ table);
-          bounded = rw c.log_server.ensures at c.is_bounded-in-Ok.ensures;
+          bounded = rw (c.log_server.ensures, c.note_reached.ensures.same) at c.is_bounded-in-Ok.ensures;
         },
         (
           tries g.N.Network.transition _ _ _ _ _ _ tried,
@@ -154,7 +154,7 @@ returns-in-Ok-clause-connected g c = λ ports ready.
     (c.advances.ensures.connected c.if-advances.false) c.in-Ok.ensures.joined in
     subst (λ (p : SocketPorts g.row.N-Connection.Denot). HasConnected g.N.Network.transition p.sides.server.stream.stream
     c.args.self.now.poller.network c.log_server.new.self.poller.network) (ready_is c.in-Ok.ports ports ready)
-    (rw c.log_server.ensures (rw c.take_arrival.ensures.same at reached))
+    (rw (c.log_server.ensures, c.note_reached.ensures.same) (rw c.take_arrival.ensures.same at reached))
 
 -- its server was not reached
 pub returns-in-Err-clause-transition : goal.returns-in-Err-clause-transition
@@ -167,9 +167,9 @@ returns-in-Err-clause-transition g c =
     let tried = rw c.take_arrival.ensures.same at c.advances.ensures.tries in
     let bot = c.in-Err.ensures.unreached.1 ∙ c.advances.ensures.goes_on.bot in
     let reading = ap (λ (t : Table). t.reading) table.same in
-    let closes = rw (bot, reading, c.take_arrival.ensures.same) at c.let_go-in-Err.ensures.closes in
-    let rows = rw c.take_arrival.ensures.same at c.let_go-in-Err.ensures.rows in
-    rw (c.let_go-in-Err.ensures.same, c.take_arrival.ensures.same) (λ held. (
+    let closes = rw (c.note_away.ensures.same, bot, reading, c.take_arrival.ensures.same) at c.let_go-in-Err.ensures.closes in
+    let rows = rw (c.note_away.ensures.same, c.take_arrival.ensures.same) at c.let_go-in-Err.ensures.rows in
+    rw (c.let_go-in-Err.ensures.same, c.note_away.ensures.same, c.take_arrival.ensures.same) (λ held. (
       failed_holds old mid _ c.args.place _ _ _ lt key table rows held,
       (c.in-Some.arrival, c.in-Some.ensures.some, (_, closes), refl),
       (
@@ -179,7 +179,7 @@ returns-in-Err-clause-transition g c =
         },
         (
           both g.N.Network.transition is_of_connect _ _ _ (tries g.N.Network.transition _ _ _ _ _ _ tried)
-              c.let_go-in-Err.ensures.calls,
+              (rw c.note_away.ensures.same at c.let_go-in-Err.ensures.calls),
           failed_others old mid _ c.args.place _ _ _ lt key table rows held,
           tt,
         ),
@@ -193,18 +193,25 @@ returns-in-Err-clause-transition g c =
 pub returns-in-Err-clause-leaves : goal.returns-in-Err-clause-leaves
 returns-in-Err-clause-leaves g c = λ failed.
     let identity = c.in-Err.ensures.unreached.0 ∙ c.advances.ensures.goes_on.identity in
-    let present = rw (identity, c.take_arrival.ensures.same) at c.let_go-in-Err.ensures.present in
+    let present = rw (c.note_away.ensures.same, identity, c.take_arrival.ensures.same) at c.let_go-in-Err.ensures.present in
     let table = rw c.take_arrival.ensures.same at c.advances.ensures.table in
     let reading = ap (λ (t : Table). t.reading) table.same in
-    let logged = rw (identity, reading, c.take_arrival.ensures.same) at c.let_go-in-Err.ensures.logged in
-    rw c.let_go-in-Err.ensures.same (c.in-Some.arrival, c.in-Some.ensures.some, present, logged)
+    let logged = rw (c.note_away.ensures.same, identity, reading, c.take_arrival.ensures.same) at c.let_go-in-Err.ensures.logged in
+    let off = rw c.take_arrival.ensures.same at (sym c.stops_now.ensures ∙ c.if-stops_now.false) in
+    rw (c.let_go-in-Err.ensures.same, c.note_away.ensures.same, off) (
+      c.in-Some.arrival,
+      c.in-Some.ensures.some,
+      present,
+      c.note_away.new.self.errors,
+      logged,
+    )
 
 pub returns-in-Err-clause-unreached : goal.returns-in-Err-clause-unreached
 returns-in-Err-clause-unreached g c = λ failed off.
     let all = rw c.take_arrival.ensures.same at c.advances.ensures.all in
     let key = key_fits c.args.place _ c.server_key.result Server c.server_key.ensures c.in-Some.ensures.rows.1 in
     let tried = rw c.take_arrival.ensures.same at c.advances.ensures.tries in
-    rw (c.let_go-in-Err.ensures.same, c.take_arrival.ensures.same) (
+    rw (c.let_go-in-Err.ensures.same, c.note_away.ensures.same, c.take_arrival.ensures.same) (
       c.in-Some.arrival,
       c.advances.new.poller.network,
       c.in-Some.ensures.some,

@@ -1,4 +1,4 @@
-use Rattle.std.proofs.Common.{ℕ, ◌<◌, ◌++◌, nat_le, refl, sym, ap, ◌∙◌, subst}
+use Rattle.std.proofs.Common.{◌++◌, nat_le, refl, sym, ap, ◌∙◌, subst}
 use Rattle.std.specs.Prelude.{◌||◌, ◌&&◌, not}
 use Rattle.daide_io.specs.ReadyQueue.{ReadyView, woken_all}
 use Rattle.daide_io.proofs.ReadyLemmas.{woken_both}
@@ -65,7 +65,7 @@ returns-clause-transition g c =
             (closing_keys c.tidy.new.self.closings.streams) c.take_orders-orders.new.self.control asleep places polled.8 rows
             armed.1 armed.2 (old.idle_time, old.stall_time) old.acceptor c.tidy.new.self.acceptor old.arrivals.items old.closings
             old.control _ c.take_orders-orders.result asked.2 asked.0 held acceptor
-            (_, _, _, rw (c.tidy.ensures.same, c.poll_places.ensures.same, c.note_capacity.ensures.same) at asked.1)
+            (_, _, _, _, _, rw (c.tidy.ensures.same, c.poll_places.ensures.same, c.note_capacity.ensures.same) at asked.1)
             (rw (c.tidy.ensures.network, control) at asked.3) asked.4,
       ),
     )

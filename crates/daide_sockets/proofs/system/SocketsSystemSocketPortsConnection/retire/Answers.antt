@@ -1,4 +1,5 @@
-use Rattle.std.proofs.Common.{refl}
+use Rattle.std.proofs.Common.{◌≡◌, ℕ, Option, refl, ap}
+use Rattle.daide_sockets.specs.declared.session_notice.Lasted.{Lasted}
 use Rattle.daide_sockets.proofs.KeptRowLemmas.{retire_beside, retire_holds, retire_others, retire_places}
 use Rattle.daide_sockets.proofs.NetworkCallLemmas.{both, follows}
 use Rattle.daide_sockets.specs.Wakeups.{is_follow}
@@ -26,3 +27,21 @@ returns-clause-transition g c =
       λ lt. retire_beside _ _ c.args.place _ _ rows held lt,
       refl,
     ))
+
+-- the time of its session, and why it is over
+lasted_is : (found : Lasted) (time : Option ℕ) → found.milliseconds ≡ time → found ≡ record { milliseconds = time }
+lasted_is found time e = ap (λ (m : Option ℕ). record { milliseconds = m }) e
+
+pub returns-clause-logged : goal.returns-clause-logged
+returns-clause-logged g c =
+    let lasted = lasted_is c.between-lasted.result _ c.between-lasted.ensures in
+    rw (
+      lasted,
+      c.why_of-why.ensures,
+      c.new-timed.ensures,
+      c.at.ensures,
+      c.at-2.ensures,
+      c.sockets-sockets.ensures,
+      c.now.ensures,
+      c.identity-number.ensures,
+    ) at c.log_session.ensures.logged
