@@ -1,10 +1,10 @@
 -- Over a network that is the list of its calls: those of a due accept have at most one accept, and the first connect is to the
 -- first address.
-use Rattle.std.proofs.Common.{◌≡◌, ◌≤◌, ℕ, zero, suc, ◌+◌, List, [], ◌∷◌, ◌++◌, Some, Result, Ok, Err, ap, ◌∙◌, inl, inr, arith}
+use Rattle.std.proofs.Common.{◌≡◌, ◌≤◌, ℕ, zero, suc, ◌+◌, List, [], ◌∷◌, ◌++◌, Some, None, false, true, Result, Ok, Err, refl, ap, ◌∙◌, inl, inr, arith}
 use Rattle.std.specs.declared.io.Error.{Error}
 use Rattle.std.specs.declared.net.socket_addr.SocketAddr.{SocketAddr}
 use Rattle.daide_io.specs.Network.{NetworkCall, AcceptsConnection, BeginsConnect}
-use Rattle.daide_sockets.specs.Accepting.{AcceptsBeside, LacksDescriptors, HasDescriptors, FollowsAtMostOnce, FollowsAccepted, FollowsBegun, ConnectsFrom, AcceptsThenConnects}
+use Rattle.daide_sockets.specs.Accepting.{IsNextTry, part_of, AcceptsBeside, LacksDescriptors, HasDescriptors, FollowsAtMostOnce, FollowsAccepted, FollowsBegun, ConnectsFrom, AcceptsThenConnects}
 
 module _ {C : Type 0} where
   -- one more call was made
@@ -92,3 +92,13 @@ module _ {C : Type 0} where
       first : h.4.mid ≡ BeginsConnect one h.4.begun ∷ []
       first = h.4.call ∙ ap (λ (calls : List (NetworkCall C)). calls ++ BeginsConnect h.1 h.4.begun ∷ []) h.2
           ∙ ap (λ (a : SocketAddr). BeginsConnect a h.4.begun ∷ []) address
+
+-- ---- the time of each address
+
+-- of five seconds, in nanoseconds
+parts_are_equal : (part_of 5000000000 1 ≡ 5000000000) × (part_of 5000000000 2 ≡ 2500000000) × (part_of 5000000000 3 ≡ 1666666666)
+    × (part_of 5000000000 0 ≡ 5000000000)
+parts_are_equal = (refl, refl, refl, refl)
+
+none_is_next : IsNextTry None false 2500000000 None × IsNextTry None true 0 None
+none_is_next = (refl, refl)

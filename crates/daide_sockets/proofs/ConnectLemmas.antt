@@ -1,7 +1,8 @@
 -- The result of a connect: its place rests, or its ports begin, or its bot is given up.
-use Rattle.std.proofs.Common.{◌≡◌, ℕ, ◌+◌, ◌*◌, ◌<◌, ◌≤◌, Bool, false, List, Option, Some, None, length, refl, sym, ap, ◌∙◌, subst, arith}
+use Rattle.std.proofs.Common.{◌≡◌, ℕ, zero, suc, ◌+◌, ◌*◌, ◌<◌, ◌≤◌, Bool, true, false, List, Option, Some, None, length, refl, sym, ap, ◌∙◌, subst, arith}
 use Rattle.std.proofs.Math.Nat.{min-eq_left}
-use Rattle.std.specs.Prelude.{◌||◌, IfSome, IsSome, min, option_map}
+use Rattle.std.specs.Prelude.{◌||◌, IfSome, IsSome, if◌then◌else◌, min, nat_le, option_map}
+use Rattle.std.specs.Time.{instant_nanos}
 use Rattle.daide_sockets.specs.declared.socket.Socket.{Socket}
 use Rattle.std.specs.declared.net.socket_addr.SocketAddr.{SocketAddr}
 use Rattle.std.specs.declared.time.Instant.{Instant}
@@ -10,13 +11,43 @@ use Rattle.daide_frame.specs.declared.side.Side.TheVariants.{Bot, Server}
 use Rattle.daide_buffered_io.specs.declared.readiness.Readiness.{Readiness}
 use Rattle.daide_io.specs.Network.{NetworkCall}
 use Rattle.daide_io.specs.declared.system.Connect.TheVariants.{Ready}
-use Rattle.daide_sockets.specs.Accepting.{may_connect, AsksAtMostOnce, ConnectsFrom, HasConnected, TriesOn}
+use Rattle.daide_sockets.specs.Accepting.{may_connect, AsksAtMostOnce, ConnectsFrom, HasConnected, IsNextTry, TriesOn}
 use Rattle.daide_sockets.specs.KeptRows.{ChangesRows}
 use Rattle.daide_sockets.specs.Pairing.{Arriving, Paired, IsFresh, IsJoined, StaysPending, arrival_at}
 use Rattle.daide_sockets.specs.Scheduling.{RestsForConnect}
 use Rattle.daide_sockets.specs.Table.{Table, deadline_at, key_of, merged, report_at, resting}
-use Rattle.daide_sockets.specs.Clock.{is_past}
+use Rattle.daide_sockets.specs.Clock.{IsAfter, earlier, is_past}
 use Rattle.daide_sockets.proofs.KeptRowLemmas.{rests_until, same_deadlines}
+
+-- the earlier of two moments that are not past is not past
+not_past_earlier : (now one other : Option Instant) → is_past now one ≡ false → is_past now other ≡ false →
+    is_past now (earlier one other) ≡ false
+not_past_earlier now None other first second = second
+not_past_earlier now (Some moment) None first second = first
+not_past_earlier now (Some moment) (Some later) first second = by (nat_le (instant_nanos moment) (instant_nanos later))
+  where
+    by : (is_first : Bool) → is_past now (if is_first then Some moment else Some later) ≡ false
+    by true = first
+    by false = second
+
+none_not_past : (reading moment : Option Instant) → moment ≡ None → is_past reading moment ≡ false
+none_not_past reading moment none = rw none (by reading)
+  where
+    by : (now : Option Instant) → is_past now None ≡ false
+    by None = refl
+    by (Some now) = refl
+
+-- the moment at which the next address is tried is not past when it is set
+pub next_not_past : (reading : Option Instant) (is_left : Bool) (part : ℕ) (moment : Option Instant) →
+    IsNextTry reading is_left part moment → is_past reading moment ≡ false
+next_not_past reading true (suc rest) moment h = after_not_past reading moment h
+  where
+    after_not_past : (reading moment : Option Instant) → IsAfter reading (suc rest) moment → is_past reading moment ≡ false
+    after_not_past None moment h = refl
+    after_not_past (Some now) None h = refl
+    after_not_past (Some now) (Some due) h = grind (arith, h)
+next_not_past reading true zero moment h = none_not_past reading moment h
+next_not_past reading false part moment h = none_not_past reading moment h
 
 -- the key of a row of a place that has both
 pub key_fits : (place most key : ℕ) (side : Side) → key ≡ min (key_of place side) most → key_of place Server ≤ most →
@@ -39,15 +70,16 @@ module _ {S : Type 0} where
   -- the place of a pending connect rests
   pub rests_for : (old mid new : Table) (place key : ℕ) (arrival later : Arriving S) (due : Option Instant)
       (found : Option (Arriving S)) → found ≡ Some later → key ≡ key_of place Server → ChangesRows (λ row. row ≡ key) old mid →
-      new ≡ resting mid place due → due ≡ later.gives_up → StaysPending arrival later →
-      is_past old.reading arrival.gives_up ≡ false → may_connect mid key later.known ≡ false →
-      RestsForConnect found old place new
-  rests_for old mid new place key arrival later due found there is connects rests until stays early still =
+      new ≡ resting mid place due → due ≡ earlier later.moves_on later.gives_up → StaysPending arrival later →
+      is_past old.reading arrival.gives_up ≡ false → is_past old.reading later.moves_on ≡ false →
+      may_connect mid key later.known ≡ false → RestsForConnect found old place new
+  rests_for old mid new place key arrival later due found there is connects rests until stays early moves still =
       subst (λ (f : Option (Arriving S)). RestsForConnect f old place new) (sym there) (λ lt. (
         ap (λ (t : Table). deadline_at t place) rests
             ∙ rests_until mid.deadlines place due
             (subst (λ (n : ℕ). place < n) (sym (ap length (same_deadlines (λ row. row ≡ key) old mid connects))) lt) ∙ until,
-        ap (λ (d : Option Instant). is_past old.reading d) stays.gives_up ∙ early,
+        not_past_earlier old.reading later.moves_on later.gives_up moves
+            (ap (λ (d : Option Instant). is_past old.reading d) stays.gives_up ∙ early),
         ap (λ (t : Table). may_connect t (key_of place Server) later.known) rests
             ∙ ap (λ (k : ℕ). may_connect mid k later.known) (sym is) ∙ still,
       ))

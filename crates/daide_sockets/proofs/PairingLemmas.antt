@@ -11,7 +11,7 @@ use Rattle.daide_sockets.specs.Pairing.{is_vacant_in, is_vacant, one_if_arrives,
 module _ {S : Type 0} where
   -- a bot stays pending, by one call and then another
   pub same_pending : (arrival : Arriving S) → StaysPending arrival arrival
-  same_pending arrival = record { identity = refl; bot = refl; server = inl refl; tried = omega arith; gives_up = refl; im_due = refl }
+  same_pending arrival = record { identity = refl; bot = refl; server = inl refl; tried = omega arith; gives_up = refl; im_due = refl; part = refl }
 
   pub stays_both : (old mid new : Arriving S) → StaysPending old mid → StaysPending mid new → StaysPending old new
   stays_both old mid new h k = record {
@@ -21,6 +21,7 @@ module _ {S : Type 0} where
     tried = let first = h.tried in let second = k.tried in omega (arith, first, second);
     gives_up = k.gives_up ∙ h.gives_up;
     im_due = k.im_due ∙ h.im_due;
+    part = k.part ∙ h.part;
   }
     where
       by : (mid.server ≡ old.server) ⊎ IsFreshConnect mid.server → (new.server ≡ mid.server) ⊎ IsFreshConnect new.server →

@@ -1,5 +1,5 @@
 -- The condition for an accept, and the calls on the network of which it is one. (own)
-use Rattle.std.specs.Prelude.{◌≡◌, ◌≤◌, ◌⊎◌, ℕ, zero, suc, ◌+◌, ◌&&◌, ◌||◌, not, Bool, true, false, List, length}
+use Rattle.std.specs.Prelude.{◌≡◌, ◌≤◌, ◌⊎◌, ℕ, zero, suc, ◌+◌, ◌/◌, min, ◌&&◌, ◌||◌, not, Bool, true, false, List, length}
 use Rattle.std.specs.Prelude.{Option, Some, None, Result, Ok, Err, slice_get, if◌then◌else◌}
 use Rattle.std.specs.declared.io.Error.{Error}
 use Rattle.std.specs.declared.io.ErrorKind.{ErrorKind}
@@ -158,6 +158,17 @@ pub record TriesOn {N C : Type 0} (transition : N → NetworkCall C → N → Ty
   pub count : ℕ
   pub counted : after ≡ before + count
   pub connects : ConnectsFrom transition addresses key before count mid new
+
+-- the part of a time, in nanoseconds, that each of this number of addresses has
+abbrev pub part_of : ℕ → ℕ → ℕ
+part_of time zero = time
+part_of time (suc others) = time / min (suc others) 4294967295
+
+-- the moment at which the next address is tried: after this part of the time, if an address is left
+abbrev pub IsNextTry : Option Instant → Bool → ℕ → Option Instant → Type 0
+IsNextTry reading true (suc rest) moment = IsAfter reading (suc rest) moment
+IsNextTry reading true zero moment = moment ≡ None
+IsNextTry reading false part moment = moment ≡ None
 
 -- The deadline of a connect is past at this reading, or each of the addresses was tried: the first `before` of them
 -- earlier, and the others now.

@@ -8,6 +8,7 @@ use Rattle.daide_io.specs.declared.system.Connect.TheVariants.{Ready, Failed, Pe
 use Rattle.daide_buffered_io.specs.Buffers.{Buffer, with_stream}
 use Rattle.daide_buffered_io.specs.declared.readiness.Readiness.{Readiness}
 use Rattle.daide_io.specs.Streams.{StreamCall, IsSameStream}
+use Rattle.std.specs.declared.time.Duration.{Duration}
 use Rattle.std.specs.declared.time.Instant.{Instant}
 use Rattle.daide_sockets.specs.declared.present.Bot.{Bot}
 use Rattle.daide_sockets.specs.Clock.{IsAfter}
@@ -26,6 +27,8 @@ pub record Arriving (S : Type 0) : Type 0 where
   pub tried : ℕ
   pub gives_up : Option Instant
   pub im_due : Option Instant
+  pub part : Duration
+  pub moves_on : Option Instant
 
 -- the bot of a session, its stream, and that of the server
 pub record Paired (S : Type 0) : Type 0 where
@@ -96,6 +99,7 @@ pub record StaysPending {S : Type 0} (old new : Arriving S) : Type 0 where
   pub tried : old.tried ≤ new.tried
   pub gives_up : new.gives_up ≡ old.gives_up
   pub im_due : new.im_due ≡ old.im_due
+  pub part : new.part ≡ old.part
 
 -- The bot at a place, if there is one, stays pending. No other place changes.
 abbrev pub StaysPendingIf : {S : Type 0} → Option (Arriving S) → List (Option (Arriving S)) → ℕ → List (Option (Arriving S)) →

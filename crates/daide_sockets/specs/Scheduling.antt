@@ -26,7 +26,7 @@ use Rattle.daide_sockets.specs.KeptRows.{IsFixedRow, KeepsBeside, KeepsReportsOf
 use Rattle.daide_sockets.specs.Rows.{AreRowsOf, closing_keys}
 use Rattle.daide_sockets.specs.Snapshot.{seconds_between, or_zero, IsRunStatus, IsSessionRow}
 use Rattle.daide_sockets.specs.Table.{Table, PollsOnce, control_key, deadline_at, key_of, listener_key}
-use Rattle.daide_sockets.specs.Clock.{IsNoTime, is_past}
+use Rattle.daide_sockets.specs.Clock.{IsNoTime, earlier, is_past}
 use Rattle.daide_sockets.specs.Timers.{SessionTimers, BeginsAt, timers_of}
 use Rattle.daide_sockets.specs.Wakeups.{Wakes, PollsForPlaces}
 
@@ -93,12 +93,13 @@ pub record AsksListener {N C S : Type 0} (transition : N → NetworkCall C → N
 
 -- ---- connects
 
--- The place of a bot whose connect is pending rests until the deadline of the connect, which is not past. Until a poll
--- reports something of it, the connect has no result.
+-- The place of a bot whose connect is pending rests until the deadline of the connect, or until its next address is tried,
+-- neither of which is past. Until a poll reports something of it, the connect has no result.
 abbrev pub RestsForConnect : {S : Type 0} → Option (Arriving S) → Table → ℕ → Table → Type 0
 RestsForConnect None old place new = new ≡ old
 RestsForConnect (Some arrival) old place new = place < length old.deadlines →
-    (deadline_at new place ≡ arrival.gives_up) × (is_past old.reading arrival.gives_up ≡ false)
+    (deadline_at new place ≡ earlier arrival.moves_on arrival.gives_up)
+    × (is_past old.reading (earlier arrival.moves_on arrival.gives_up) ≡ false)
     × (may_connect new (key_of place Server) arrival.known ≡ false)
 
 -- ---- calls

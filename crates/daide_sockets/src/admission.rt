@@ -1,17 +1,17 @@
 //! Accepted bots, and their connects to the server.
 //!
 //! Neither an accept nor a connect blocks. The server's name is resolved at the start. If it has several addresses,
-//! they are tried one after the other, within one deadline for all.
+//! they are tried one after the other, within one deadline for all: each but the last has an equal part of the time.
 
 ghost use Rattle.std.specs.Duration.{as_nanos};
 ghost use Rattle.std.specs.Net.Socket.{socket_ip};
-ghost use Rattle.std.specs.Prelude.{◌≡◌, ◌⊎◌, ℕ, ◌+◌, ◌<◌, ◌≤◌, ◌++◌, ◌∷◌, [], Some, None, Err, true, false, IfOk, IfErr, IfSome, IfNone, IsSome, length};
+ghost use Rattle.std.specs.Prelude.{◌≡◌, ◌⊎◌, ℕ, ◌+◌, ◌<◌, ◌≤◌, ◌++◌, ◌∷◌, ◌||◌, nat_lt, [], Some, None, Err, true, false, IfOk, IfErr, IfSome, IfNone, IsSome, length};
 ghost use Rattle.daide_buffered_io.specs.Buffers.{Buffer};
 ghost use Rattle.daide_io.specs.Network.{AsksConnect, Listens, StopsListening, connect_status};
 ghost use Rattle.daide_io.specs.declared.network.ConnectReport.{ConnectReport};
 ghost use Rattle.daide_settings.specs.Ranges.{host_of, may_come};
 ghost use Rattle.daide_sockets.specs.Accepting.{is_bot_due, is_declined, may_connect, descriptors_for, round_begun, shut, AcceptsOnce, AcceptsOneBot, BringsBot};
-ghost use Rattle.daide_sockets.specs.Accepting.{AsksAtMostOnce, BringsNoBot, ConnectsFrom, HasConnected, TriesOn, GivesConnection, Pauses};
+ghost use Rattle.daide_sockets.specs.Accepting.{AsksAtMostOnce, BringsNoBot, IsNextTry, part_of, ConnectsFrom, HasConnected, TriesOn, GivesConnection, Pauses};
 ghost use Rattle.daide_sockets.specs.PollTimes.{listener_armed};
 ghost use Rattle.daide_sockets.specs.KeptRows.{ChangesRows};
 ghost use Rattle.daide_sockets.specs.Pairing.{ConnectsTo, StaysPending, IsFreshConnect, IsFresh, IsJoined, pending_connects};
@@ -19,8 +19,9 @@ ghost use Rattle.daide_sockets.specs.Present.{HasRoomForOne, bot_from, hosts_of}
 ghost use Rattle.daide_sockets.specs.Scheduling.{pair_of};
 ghost use Rattle.daide_sockets.specs.Table.{listener_key, merged, report_at, arming};
 ghost use Rattle.daide_sockets.specs.Timers.{BeginsAt, timers_of};
-ghost use Rattle.daide_sockets.specs.Clock.{IsAfter, is_past};
+ghost use Rattle.daide_sockets.specs.Clock.{IsAfter, earlier, is_past};
 
+use crate::clock::earlier;
 use crate::listener::Listener;
 use crate::poller::Poller;
 use crate::ports::SocketPorts;
@@ -310,6 +311,10 @@ pub(crate) struct PendingConnection<'w, S: Drop> {
     gives_up: Option<Instant>,
     /// The deadline of the initial message.
     im_due: Option<Instant>,
+    /// The time that each address has, if a further one is left.
+    part: Duration,
+    /// The moment at which the next address is tried; `None` if none is left, or for never.
+    moves_on: Option<Instant>,
     /// Why the connect to the address that was tried last failed; `None` if it did not, or not yet.
     failure: Option<ErrorKind>,
 }
@@ -328,7 +333,28 @@ impl<'w, S: Drop> Model for PendingConnection<'w, S> {
       tried = a.tried;
       gives_up = a.gives_up;
       im_due = a.im_due;
+      part = a.part;
+      moves_on = a.moves_on;
     } };
+}
+
+/// Returns an equal part of a time for each of this number of addresses.
+fn part_of(time: Duration, addresses: usize) -> Duration
+    ensures { as_nanos result ≡ part_of (as_nanos time) addresses }
+{
+    let count = u32::try_from(addresses).unwrap_or(u32::MAX);
+    time.checked_div(count).unwrap_or(time)
+}
+
+/// Returns the moment at which the next address is tried, by the table's reading of the clock: after this part of the time if
+/// an address is left; `None` for never.
+fn next_try(table: &SocketTable, is_left: bool, part: Duration) -> Option<Instant>
+    ensures { IsNextTry table.now.reading is_left (as_nanos part) result }
+{
+    if is_left && part > Duration::ZERO {
+        return table.after(part);
+    }
+    None
 }
 
 /// Returns how many connects are under way.
@@ -423,14 +449,18 @@ impl<'w, S: Duplex + Drop> PendingConnection<'w, S> {
         ensures table { ChangesRows (λ row. row ≡ key) poller.old.table poller.new.table }
         ensures im_due { IsAfter poller.old.table.reading (as_nanos times.0) result.im_due }
         ensures gives_up { IsAfter poller.old.table.reading (as_nanos times.1) result.gives_up }
+        ensures moves_on { IsNextTry poller.old.table.reading (nat_lt result.tried (length servers.now))
+            (part_of (as_nanos times.1) (length servers.now)) result.moves_on }
     {
         let (identity, bot) = came;
         let (im_time, connect_time) = times;
+        let part = part_of(connect_time, servers.len());
         let gives_up = poller.table.after(connect_time);
         let im_due = poller.table.after(im_time);
         let (mut tried, mut failure) = (0, None);
         let begun = begun(poller, servers, key, &mut tried, &mut failure);
         let server = connecting(begun, key, bot.pool);
+        let moves_on = next_try(&poller.table, tried < servers.len(), part);
         PendingConnection {
             identity,
             bot,
@@ -438,6 +468,8 @@ impl<'w, S: Duplex + Drop> PendingConnection<'w, S> {
             tried,
             gives_up,
             im_due,
+            part,
+            moves_on,
             failure,
         }
     }
@@ -490,7 +522,7 @@ impl<'w, S: Duplex + Drop> PendingConnection<'w, S> {
         status
     }
 
-    /// Closes the connect, and starts one to the next address, if one is left.
+    /// Closes the connect, and starts one to the next address, if one is left. It has its part of the time if another is left.
     fn try_next<N: Network<Connection = S>>(
         &mut self,
         poller: &mut Poller<N>,
@@ -502,11 +534,14 @@ impl<'w, S: Duplex + Drop> PendingConnection<'w, S> {
             × ConnectsFrom N.transition servers.now key self.old.tried count poller.old.network poller.new.network }
         ensures all { self.new.server ≡ None → length servers.now ≤ self.new.tried }
         ensures still { IsSome self.new.server → may_connect poller.new.table key self.new.known ≡ false }
+        ensures moves_on { IsNextTry poller.old.table.reading (nat_lt self.new.tried (length servers.now)) (as_nanos self.old.part)
+            self.new.moves_on }
         ensures table { ChangesRows (λ row. row ≡ key) poller.old.table poller.new.table }
     {
         self.server = None;
         let begun = begun(poller, servers, key, &mut self.tried, &mut self.failure);
         self.server = connecting(begun, key, self.bot.pool);
+        self.moves_on = next_try(&poller.table, self.tried < servers.len(), self.part);
     }
 
     /// Closes the connect once its deadline is past at the table's reading of the clock.
@@ -522,11 +557,11 @@ impl<'w, S: Duplex + Drop> PendingConnection<'w, S> {
         }
     }
 
-    /// Returns its deadline.
+    /// Returns its nearest deadline: of the present address, or of all.
     pub(crate) fn due(&self) -> Option<Instant>
-        ensures { result ≡ self.now.gives_up }
+        ensures { result ≡ earlier self.now.moves_on self.now.gives_up }
     {
-        self.gives_up
+        earlier(self.moves_on, self.gives_up)
     }
 
     /// Advances the connect without blocking. Returns true if it is still under way; otherwise the server is connected,
@@ -534,9 +569,13 @@ impl<'w, S: Duplex + Drop> PendingConnection<'w, S> {
     ///
     /// `late`: once its deadline is past at the reading of the clock, it is no longer under way.
     ///
-    /// `early`: before its deadline it is given up only after a poll reported something of the connect.
+    /// `early`: before its deadline it is given up only after a poll reported something of the connect, or once the time of the
+    /// present address is over.
     ///
-    /// `tries`: a failed connect is followed by connects to the next addresses, each once, and no other call is made.
+    /// `moves`: while it is under way the time of the present address is not over, if a further one is left.
+    ///
+    /// `tries`: a connect that failed, or whose time is over, is followed by connects to the next addresses, each once, and no other
+    /// call is made.
     ///
     /// `all`: before its deadline it is given up only if no address is left.
     ///
@@ -560,17 +599,21 @@ impl<'w, S: Duplex + Drop> PendingConnection<'w, S> {
         ensures still { result ≡ true → may_connect poller.new.table key self.new.known ≡ false }
         ensures late { result ≡ true → is_past poller.old.table.reading self.old.gives_up ≡ false }
         ensures early { result ≡ false → is_past poller.old.table.reading self.old.gives_up ≡ false →
-            may_connect poller.old.table key self.old.known ≡ true }
+            (may_connect poller.old.table key self.old.known || is_past poller.old.table.reading self.old.moves_on) ≡ true }
+        ensures moves { result ≡ true → is_past poller.old.table.reading self.new.moves_on ≡ false }
         ensures tries { TriesOn N.transition servers.now key self.old.tried self.new.tried poller.old.network
             poller.new.network }
         ensures all { is_past poller.old.table.reading self.old.gives_up ≡ false → self.new.server ≡ None →
             length servers.now ≤ self.new.tried }
         ensures table { ChangesRows (λ row. row ≡ key) poller.old.table poller.new.table }
     {
-        match self.progress(poller, key) {
+        let moves_on = match self.progress(poller, key) {
             ConnectStatus::Connected => return false,
-            ConnectStatus::Failed => self.try_next(poller, servers, key),
-            ConnectStatus::Pending => {}
+            ConnectStatus::Failed => true,
+            ConnectStatus::Pending => poller.table.is_over(self.moves_on),
+        };
+        if moves_on {
+            self.try_next(poller, servers, key);
         }
         self.drop_if_late(&poller.table);
         self.server.is_some()
@@ -599,6 +642,8 @@ impl<'w, S: Duplex + Drop> PendingConnection<'w, S> {
             tried,
             gives_up: _,
             im_due,
+            part: _,
+            moves_on: _,
             failure,
         } = self;
         let Some(server) = server else {
@@ -623,6 +668,8 @@ impl<'w, S: Duplex + Drop> PendingConnection<'w, S> {
             tried,
             gives_up: _,
             im_due: _,
+            part: _,
+            moves_on: _,
             failure,
         } = self;
         Unreached {

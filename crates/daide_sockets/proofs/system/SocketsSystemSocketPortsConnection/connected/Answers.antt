@@ -76,6 +76,7 @@ returns-then-advances-clause-transition g c =
     let table = rw c.take_arrival.ensures.same at c.advances.ensures.table in
     let tried = rw c.take_arrival.ensures.same at c.advances.ensures.tries in
     let early = rw c.take_arrival.ensures.same at (c.advances.ensures.late c.if-advances.true) in
+    let moves = rw c.take_arrival.ensures.same at (c.advances.ensures.moves c.if-advances.true) in
     rw (c.put_arrival.ensures.same, c.take_arrival.ensures.same) (λ held. (
       rested_holds _ _ c.args.place _ _ c.rest.ensures (connect_holds _ _ c.args.place _ _ lt key table held),
       (
@@ -102,7 +103,7 @@ returns-then-advances-clause-transition g c =
             later c.due.result (arrival_at new c.args.place)
             (there_again old.arrivals.items c.take_arrival.new.self.arrivals.items new c.args.place c.in-Some.arrival later out
             c.put_arrival.ensures.put)
-            key table c.rest.ensures c.due.ensures c.advances.ensures.goes_on early
+            key table c.rest.ensures c.due.ensures c.advances.ensures.goes_on early moves
             (c.advances.ensures.still c.if-advances.true),
       ),
       refl,
