@@ -3,7 +3,7 @@
 ghost use Rattle.std.specs.Prelude.{◌≡◌, ◌≢◌, []};
 ghost use Rattle.daide_io.specs.Ports.{TurnBegins};
 ghost use Rattle.daide_io.specs.System.{BeginsTurn};
-ghost use Rattle.daide_log.specs.Recording.{due_time as time_due, written_in};
+ghost use Rattle.daide_log.specs.Recording.{due_time as time_due};
 
 use crate::comment::Comment;
 use crate::moment::Moment;
@@ -13,7 +13,6 @@ use daide_frame::Side;
 use daide_io::ports::{ClockEvent, Ports, Pull, Put};
 use daide_io::system::System;
 use daide_log_lines::event_line::MOST;
-use std::cell::Cell;
 use std::marker::Model;
 
 /// Whether bytes move between the two sides, by what the ports returned last.
@@ -36,16 +35,6 @@ fn due_time(now: Option<Moment>, last: Option<Moment>) -> Option<Moment>
     match last {
         Some(last) if !now.is_apart(last) => None,
         _ => Some(now),
-    }
-}
-
-/// Returns how a record ended, or would end now; `Failed` if there is none.
-fn ending_in<W: Sink + Drop>(log: &Option<Record<W>>) -> RecordEnd
-    ensures { result ≡ (written_in log.now).ending }
-{
-    match log {
-        Some(log) => log.ending(),
-        None => RecordEnd::Failed,
     }
 }
 
@@ -74,8 +63,6 @@ pub struct Recording<P: Ports, W: Sink + Drop> {
     activity: Activity,
     present: Option<Moment>,
     last: Option<Moment>,
-    /// How the record would have ended when its end was last reported.
-    reported: Cell<RecordEnd>,
 }
 
 impl<P: Ports, W: Sink + Drop> Model for Recording<P, W> {
@@ -108,14 +95,12 @@ impl<P: Ports, W: Sink + Drop> Recording<P, W> {
           last = began;
         } }
     {
-        let reported = Cell::new(ending_in(&log));
         Recording {
             ports,
             log,
             activity: Activity::Moving,
             present: began,
             last: began,
-            reported,
         }
     }
 
@@ -127,16 +112,6 @@ impl<P: Ports, W: Sink + Drop> Recording<P, W> {
     {
         self.present = now;
         system.begin_turn(place, &mut self.ports);
-    }
-
-    /// Returns whether the record failed or became full, and that was not reported yet.
-    pub fn has_unreported_end(&self) -> bool {
-        ending_in(&self.log) != self.reported.get()
-    }
-
-    /// Notes that the record's end was reported.
-    pub fn note_reported(&self) {
-        self.reported.set(ending_in(&self.log));
     }
 
     /// Records the time that is due, if one is.

@@ -43,7 +43,7 @@ none_taken table places e = subst (λ (t : Table). AreRowsOf t []) (sym e) (reco
       ∙ sym (ap (λ (n : ℕ). 2 * n + 6 + 256) (length-replicate {A = Option Instant} places None));
 })
 
-module _ {N C S : Type 0} (transition : N → NetworkCall C → N → Type 0) (to_give taken : S → Option (List ℕ))
+module _ {N S : Type 0} (transition : N → NetworkCall S → N → Type 0) (to_give taken : S → Option (List ℕ))
     (calls : S → Option (List StreamCall))
     (port_transition : Recorded (SocketPorts S) → PortCall → Recorded (SocketPorts S) → Type 0) (outside : RecordEvents) where
   abbrev P : Type 0

@@ -1,5 +1,5 @@
 -- The effect of a run, from its network and its settings on. (own)
-use Rattle.std.specs.Prelude.{◌≡◌, ◌≢◌, ◌⊎◌, ℕ, List, Option, Some, Result, Ok, Err}
+use Rattle.std.specs.Prelude.{◌≡◌, ◌≢◌, ◌⊎◌, ℕ, false, List, Option, Some, Result, Ok, Err}
 use Rattle.std.specs.declared.time.Duration.{Duration}
 use Rattle.toml.specs.Parse.{parse_document}
 use Rattle.daide_io.specs.Network.{NetworkCall}
@@ -35,14 +35,15 @@ HasNoSockets stall_seconds sockets = (time : Option Duration) × IsIdleTime stal
     × (sockets.came ≡ 0) × (pending_connects sockets.arrivals ≡ 0) × (sockets.closing ≡ no_closing time)
 
 -- A run with these settings begins on a network: from this value of it on its listeners are followed. No bot came yet, no
--- connect is pending, and no socket closes. Each peer has the timeouts of the settings.
-pub record BeginsRun {N C S : Type 0} (transition : N → NetworkCall C → N → Type 0) (settings : Settings) (network : N)
+-- connect is pending, no socket closes, and no operator requested a stop. Each peer has the timeouts of the settings.
+pub record BeginsRun {N S : Type 0} (transition : N → NetworkCall S → N → Type 0) (settings : Settings) (network : N)
     (begun : RunState N S) : Type 0 where
   pub listens : BeginsListening transition begun.table network begun.network
   pub none : HasNoSockets settings.stall_seconds (sockets_in begun)
   pub idle_time : IsIdleTime settings.idle_seconds begun.times.0
   pub stall_time : IsIdleTime settings.stall_seconds begun.times.1
   pub rows : HoldsRows begun
+  pub no_orders : (begun.control.stops_accepting ≡ false) × (begun.control.stops_now ≡ false)
 
 -- the result of a run from the result of its loop
 abbrev pub ending_by : Result (Unit {0}) ServeFault → Result (Unit {0}) RunFault
@@ -51,7 +52,7 @@ ending_by (Err fault) = Err (Gateway (gateway_faults.Serve fault))
 
 -- The runs of these settings over networks with this relation, whose sessions have records with this head, if it has one.
 -- `outside` says what happened to the records, and `failed` that a write of the output failed.
-module _ {N C S : Type 0} (transition : N → NetworkCall C → N → Type 0) (to_give taken : S → Option (List ℕ))
+module _ {N S : Type 0} (transition : N → NetworkCall S → N → Type 0) (to_give taken : S → Option (List ℕ))
     (calls : S → Option (List StreamCall))
     (port_transition : Recorded (SocketPorts S) → PortCall → Recorded (SocketPorts S) → Type 0) (outside : RecordEvents)
     (head : RecordHead) (settings : Settings) (failed : Type 0) where
@@ -91,7 +92,7 @@ IsBeforeRun records settings Memory = ⊥
 IsBeforeRun records settings (run_faults.Settings fault) = ⊥
 
 -- The end of a run of settings: it did not begin, and nothing was written; or it ended on the network that was bound.
-abbrev pub SettingsRun : {F N C S : Type 0} → Option F → (N → NetworkCall C → N → Type 0) → (S → Option (List ℕ)) →
+abbrev pub SettingsRun : {F N S : Type 0} → Option F → (N → NetworkCall S → N → Type 0) → (S → Option (List ℕ)) →
     (S → Option (List ℕ)) → (S → Option (List StreamCall)) →
     (Recorded (SocketPorts S) → PortCall → Recorded (SocketPorts S) → Type 0) → RecordEvents → RecordHead → Settings → Type 0 →
     Option (List ℕ) → Option (List ℕ) → Result (Unit {0}) RunFault → Type 0
@@ -116,7 +117,7 @@ IsRefused text fault = fault ≢ settings_faults.Memory → judged_settings (par
 
 -- The end of a run of a text: it has a fault, and nothing is written; or it has settings, and they run. If there is a folder
 -- of records, each session has its own, or a notice.
-abbrev pub TextRuns : {F N C S : Type 0} → Option F → (N → NetworkCall C → N → Type 0) → (S → Option (List ℕ)) →
+abbrev pub TextRuns : {F N S : Type 0} → Option F → (N → NetworkCall S → N → Type 0) → (S → Option (List ℕ)) →
     (S → Option (List ℕ)) → (S → Option (List StreamCall)) →
     (Recorded (SocketPorts S) → PortCall → Recorded (SocketPorts S) → Type 0) → RecordEvents → List ℕ → Type 0 →
     Option (List ℕ) → Option (List ℕ) → Result (Unit {0}) RunFault → Type 0

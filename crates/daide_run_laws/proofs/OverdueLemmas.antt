@@ -1,7 +1,7 @@
 -- Each turn that begins at or past the deadline of its session takes one of the timeouts that are left.
 use Rattle.std.proofs.Common.{◌≡◌, ◌⊎◌, ℕ, ◌+◌, ◌≤◌, Bool, true, false, List, [], ◌∷◌, refl, sym, ap, ◌∙◌, subst, arith, inl, inr, ⊎_elim}
 use Rattle.std.proofs.Common.{Option, Some, None}
-use Rattle.std.specs.Prelude.{◌||◌, ◌&&◌, not, nat_le, is_some, if◌then◌else◌}
+use Rattle.std.specs.Prelude.{◌||◌, not, nat_le, is_some, if◌then◌else◌}
 use Rattle.std.proofs.lemmas.Bool.{leb-true, le-leb}
 use Rattle.std.specs.Time.{instant_nanos}
 use Rattle.std.specs.declared.time.Duration.{Duration}

@@ -5,7 +5,9 @@ ghost use Rattle.daide_sockets.specs.Addresses.{AreAddressesOf, IsBindCause, IsL
 ghost use Rattle.daide_sockets.specs.Lingering.{no_closing};
 ghost use Rattle.daide_sockets.specs.Pairing.{pending_connects};
 ghost use Rattle.daide_sockets.specs.Rows.{AreRowsOf, closing_keys};
+ghost use Rattle.daide_status.specs.Counts.{no_counts};
 ghost use Rattle.daide_sockets.specs.Scheduling.{BeginsListening};
+ghost use Rattle.daide_sockets.specs.ServerStates.{untried_at};
 ghost use Rattle.daide_sockets.specs.Table.{new_table};
 ghost use Rattle.daide_sockets.specs.Clock.{IsSeconds, IsIdleTime};
 
@@ -16,11 +18,12 @@ use crate::poller::EVENTS;
 use crate::system::Sockets;
 use crate::table::SocketTable;
 use daide_buffered_io::pool::Pool;
+use daide_causes::Sink;
 use daide_io::network::Network;
 use daide_settings::{Key, Settings};
 use mio::net::TcpListener;
 use std::alloc::Global;
-use std::io::{ErrorKind, Write};
+use std::io::ErrorKind;
 use std::net::{Net, SocketAddr};
 use std::rt::Clock;
 use std::time::Duration;
@@ -137,7 +140,7 @@ pub fn bind_sockets<'r, R: AllocGlobal + Clock + Net>(
 /// Creates the sockets of a run over a network, with these settings and the addresses of the server. Their log lines are
 /// written to `errors`. Returns `None` if memory is refused or the listener cannot be followed. No bot is accepted yet,
 /// and sessions are not logged.
-pub fn sockets_on<'w, N: Network, E: Write + Drop>(
+pub fn sockets_on<'w, N: Network, E: Sink + Drop>(
     alloc: Global,
     settings: &'w Settings,
     resources: (N, &'w [SocketAddr], SocketTable, &'w Pool),
@@ -146,6 +149,10 @@ pub fn sockets_on<'w, N: Network, E: Write + Drop>(
     ensures none_came { IfSome result (λ sockets. (sockets.acceptor.came ≡ 0) × (sockets.is_verbose ≡ false)) }
     ensures none_pending { IfSome result (λ sockets. (pending_connects sockets.arrivals.items ≡ 0)
         × (sockets.closings ≡ no_closing sockets.stall_time)) }
+    ensures no_orders { IfSome result (λ sockets. (sockets.control.stops_accepting ≡ false)
+        × (sockets.control.stops_now ≡ false)) }
+    ensures none_counted { IfSome result (λ sockets. (sockets.counts ≡ no_counts)
+        × (sockets.server ≡ untried_at sockets.poller.table.reading)) }
     ensures listens { IfSome result (λ sockets.
         BeginsListening N.transition sockets.poller.table resources.entry.0 sockets.poller.network) }
     ensures im_time { IfSome result (λ sockets. IsSeconds settings.now.im_seconds sockets.im_time) }

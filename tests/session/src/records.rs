@@ -192,7 +192,7 @@ fn writer_that_fails_changes_no_answer(rt: HostRuntime) -> Result<(), Fail> {
     same(&(broken.taken, end), &(0, RecordEnd::Failed), &"the end")
 }
 
-/// Ports without a record return what the inner ports return, and report no end of a record.
+/// Ports without a record return what the inner ports return.
 #[test]
 fn ports_without_a_record_return_the_same(rt: HostRuntime) -> Result<(), Fail> {
     let alloc = rt.alloc();
@@ -206,6 +206,5 @@ fn ports_without_a_record_return_the_same(rt: HostRuntime) -> Result<(), Fail> {
         holds(one == other, "the bytes")?;
         same(&ports.clock(false), &inner.clock(false), &"the clock")?;
     }
-    holds(!ports.has_unreported_end(), "no end")?;
     holds(ports.record().is_none(), "no record")
 }

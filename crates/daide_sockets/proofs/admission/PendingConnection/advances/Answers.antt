@@ -58,9 +58,9 @@ returns-clause-moves g c = λ _.
     let mid : is_past c.args.poller.now.table.reading c.if-moves_on.self.moves_on ≡ false = elim c.if-moves_on.branch [
       | then-moves_on w ↦ rw w.self-is (rw reading at (next_not_past _ _ _ _ w.try_next.ensures.moves_on))
       | else-moves_on w ↦ rw w.self-is (elim c.match-progress.branch [
-          | in-Failed v ↦ absurd (let on = v.moves_on-is in let off = w.if-moves_on.false in cc)
-          | in-Pending v ↦ rw (← own, reading) at (sym v.is_over-moves_on.ensures ∙ sym v.moves_on-is ∙ w.if-moves_on.false)
-        ])
+        | in-Failed v ↦ absurd (let on = v.moves_on-is in let off = w.if-moves_on.false in cc)
+        | in-Pending v ↦ rw (← own, reading) at (sym v.is_over-moves_on.ensures ∙ sym v.moves_on-is ∙ w.if-moves_on.false)
+      ])
     ] in
     ap (λ (due : Option Instant). is_past c.args.poller.now.table.reading due)
     (by (is_past c.if-moves_on.poller.table.reading c.if-moves_on.self.gives_up) refl)
