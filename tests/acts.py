@@ -35,6 +35,28 @@ def fill_queue(listener):
         stream.close()
 
 
+def shut(listener):
+    """Closes a listener. Returns a socket that keeps its port without listening, so that each connect is refused."""
+    address = listener.getsockname()
+    listener.close()
+    door = socket.socket()
+    door.setsockopt(socket.SOL_SOCKET, socket.SO_REUSEADDR, 1)
+    door.bind(address)
+    return door
+
+
+def leave_descriptors(pid, left):
+    """Has a process open at most this many more descriptors. Returns its limits before."""
+    taken, limit = {int(name) for name in os.listdir(f"/proc/{pid}/fd")}, 0
+    for _ in range(left):
+        while limit in taken:
+            limit += 1
+        limit += 1
+    before = resource.prlimit(pid, resource.RLIMIT_NOFILE)
+    resource.prlimit(pid, resource.RLIMIT_NOFILE, (limit, before[1]))
+    return before
+
+
 @dataclass(frozen=True)
 class Bot:
     """A bot, numbered in the order of connecting."""
@@ -150,20 +172,32 @@ class Empties(Act):
 
 
 @dataclass(frozen=True)
+class ServerLeaves(Act):
+    """The server's port is closed, so that each connect is refused."""
+
+    def play(self, stage):
+        stage.listener = shut(stage.listener)
+        stage.listener.setblocking(False)
+        return True
+
+
+@dataclass(frozen=True)
+class ServerReturns(Act):
+    """The server listens at its port."""
+
+    def play(self, stage):
+        stage.listener.listen()
+        return True
+
+
+@dataclass(frozen=True)
 class Hoards(Act):
     """The program may open this many more descriptors."""
 
     left: int
 
     def play(self, stage):
-        taken, limit = stage.run.descriptors(), 0
-        for _ in range(self.left):
-            while limit in taken:
-                limit += 1
-            limit += 1
-        pid = stage.run.process.pid
-        stage.hoard = resource.prlimit(pid, resource.RLIMIT_NOFILE)
-        resource.prlimit(pid, resource.RLIMIT_NOFILE, (limit, stage.hoard[1]))
+        stage.hoard = leave_descriptors(stage.run.process.pid, self.left)
         return True
 
 
@@ -282,15 +316,15 @@ class Logs(Act):
 
 
 @dataclass(frozen=True)
-class RequestsStop(Act):
-    """A client of the control socket, at this path, requests a stop. The run keeps its connection to the end."""
+class CallsControl(Act):
+    """A client of the control socket, at this path, connects and sends nothing. The run has its connection for two
+    seconds."""
 
     path: str
 
     def play(self, stage):
         stage.client = socket.socket(socket.AF_UNIX)
         stage.client.connect(str(stage.run.room / self.path))
-        stage.client.sendall(b"stop\n")
         return True
 
 

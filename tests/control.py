@@ -437,7 +437,7 @@ def stop_now_ends_a_session_at_each_place(program):
         same(received(told, len(IM)), IM, "received by the server")
         bot, server = match.opens()
         bot.sendall(OBS[:-1])
-        settled(match, "table", lambda text: text.count("  open ") == 1)
+        settled(match, "table", lambda text: text.count(" open 0 ") == 1)
         with match.client() as client:
             client.sendall(b"stop now\n")
             for sides, texts in (((silent, untold), (FM, b"")), ((waiting, told), (FM, FM)), ((bot, server), (FM, FM))):

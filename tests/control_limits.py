@@ -5,18 +5,21 @@ The expected texts are worked out from docs/FORMATS.md and docs/OPERATING.md. Ea
 
 import json
 import os
+import re
 import resource
+import select
 import signal
 import socket
 import subprocess
 import time
 
-from acts import fill_queue
+from acts import fill_queue, leave_descriptors
 from addresses import settings_of
-from control import SECONDS, Match, address, fills, rest, settled
-from held import NotPlayed, Wrong, same
+from control import SECONDS, Match, address, fills, received, rest, settled
+from frames import FM, IM
+from held import NotPlayed, Wrong, same, same_but_counts
 from runs import NOBODY
-from stage import HOST, free_port
+from stage import BEGINNING, HOST, free_port
 
 # Sessions whose status is longer than 65,536 bytes.
 MANY = 150
@@ -87,16 +90,86 @@ def status_beside_a_hung_bot_after_stop_now(program):
         same(match.ended(), (0, ""), "the run")
 
 
+# The rest of the line of a session that was stopped, with the counts of what both sides relayed.
+STOPPED = "stopped by the operator; bot {} relayed 0 prn 0 huh; server {} relayed 0 prn 0 huh; 0 faults; level 0\n"
+
+
 def stop_now_beside_a_connect_blames_no_server(program):
-    """A bot whose connect is pending gets the end, and nothing is logged of a server that can't be reached."""
-    with Match(program, "endless = true") as match:
+    """A bot whose connect is pending receives the end alone, since no session began for its frames. Its line says that the
+    operator stopped it, and it counts so; no line and no count is of a server that is away. Another session, whose bot
+    reads nothing, holds the run."""
+    with Match(program, "endless = true\nstall_seconds = 0", ["--verbose"]) as match:
+        hung, server = match.opens()
+        fills(server)
+        settled(match, "json", lambda text: json.loads(text)["sessions"][0]["queued"]["bot"])
         match.listener.listen(0)
         fill_queue(match.listener)
         bot = match.connects()
-        settled(match, "table", lambda text: text.startswith("0 open, 1 connecting, "))
-        same(match.asks(b"stop now\n"), b"", "answer to the stop")
-        rest(bot)
-        same(match.ended(), (0, ""), "the run")
+        settled(match, "table", lambda text: text.startswith("1 open, 1 connecting, "))
+        with match.client() as client:
+            client.sendall(b"stop now\n")
+            same(rest(bot), b"", "received by the bot")
+            found = settled(match, "table", lambda text: ", 0 connecting, " in text and " over " in text)
+            head = [re.sub(r"(up|for) \d+ s", r"\1", line) for line in found.splitlines()[:3]]
+            same(head, ["1 open, 0 connecting, 1 served, 0 unreached, up; stopping", "server up for, 0 unreached since",
+                        "ended: 0 declined, 0 dropped, 1 stopped by the operator"], "the first lines")
+            bots = [address(stream) for stream in (hung, bot)]
+            hung.close()
+            server.close()
+            same(rest(client), b"", "answer to the stop")
+        status, told = match.ended()
+        beginning = BEGINNING.format(match.port, address(match.listener))
+    lines = [
+        f"daide-gate: session 1 began: bot at {bots[0]}\n",
+        f"daide-gate: session 1 reached the server from {HOST}:*\n",
+        f"daide-gate: session 2 began: bot at {bots[1]}\n",
+        f"daide-gate: session 2 ended after *.* s: {STOPPED.format(0, 0)}",
+        f"daide-gate: session 1 ended after *.* s: {STOPPED.format(1, '*')}",
+    ]
+    same(status, 0, "status of the run")
+    same_but_counts(told, beginning + "".join(lines), "told")
+
+
+def nobody_is_joined(match):
+    """Checks that no further bot is joined to the server within a quarter of a second."""
+    if select.select([match.listener], [], [], 0.25)[0]:
+        raise Wrong("a bot is joined without a descriptor for a client of the control socket")
+
+
+def operator_is_served_without_descriptors(program):
+    """Three bots have sessions, and one or two descriptors are left, so three more bots wait. A client of the control
+    socket gets one: each form of the status comes, and once a session is over, the next bot is joined. A `stop` that waits
+    keeps no `stop --now` out."""
+    for count in (7, 8):
+        with Match(program, "max_sessions = 16\nendless = true", ["--verbose"]) as match:
+            leave_descriptors(match.process.pid, count)
+            ends = [match.opens() for _ in range(3)]
+            waiting = [match.connects() for _ in range(3)]
+            nobody_is_joined(match)
+            same(match.status().split(", up ")[0], "3 open, 0 connecting, 0 served, 0 unreached", "the table")
+            same([row["session"] for row in json.loads(match.status("json"))["sessions"]], [1, 2, 3], "the document")
+            same("\ndaide_gate_sessions 3\n" in match.status("prometheus"), True, "the metrics")
+            bot, server = ends.pop(0)
+            bot.sendall(FM)
+            same((rest(bot), rest(server)), (b"", FM), "received by both sides")
+            bot.close()
+            server.close()
+            server, _ = match.listener.accept()
+            match.servers.append(server)
+            bot = waiting.pop(0)
+            bot.sendall(IM)
+            same(received(server, len(IM)), IM, "received by the server")
+            nobody_is_joined(match)
+            with match.client() as first:
+                first.sendall(b"stop\n")
+                settled(match, "table", lambda text: "; stopping\n" in text)
+                same(match.command("stop", "--now", str(match.settings))[:3], ("", "", 0), "the stop of all sessions")
+                same(rest(first), b"", "answer to the first stop")
+            for ends_of_one in (*ends, (bot, server)):
+                same(tuple(map(rest, ends_of_one)), (FM, FM), "received by both sides")
+            status, told = match.ended()
+            same(told.count("daide-gate: bots wait: the system has no descriptor"), 2, "lines of bots that wait")
+            same((status, told.count(" began: "), told.count("stopped by the operator")), (0, 4, 3), "the run, and its lines")
 
 
 def suspended_run_is_waited_for_five_seconds(program):
@@ -179,6 +252,7 @@ TESTS = [
     status_counts_seconds,
     status_beside_a_hung_bot_after_stop_now,
     stop_now_beside_a_connect_blames_no_server,
+    operator_is_served_without_descriptors,
     suspended_run_is_waited_for_five_seconds,
     full_queue_is_waited_for_five_seconds,
     queue_with_room_again_is_used,

@@ -3,8 +3,8 @@
 import time
 
 from acts import (
-    Bot, Comes, Empties, Ends, FindsClosed, FindsOpen, FinishesConnect, Frees, Hears, HearsEnd, Hoards, Logs,
-    MeetsNobody, Passes, RequestsStop, Says, Server,
+    Bot, CallsControl, Comes, Empties, Ends, FindsClosed, FindsOpen, FinishesConnect, Frees, Hears, HearsEnd, Hoards,
+    Logs, MeetsNobody, Passes, Says, Server,
 )
 from frames import FM, IM
 from gateway import asks, joins
@@ -84,8 +84,9 @@ class Many(Scene):
 
 
 def left_over(count):
-    """So many descriptors are left when a bot connects, and its session needs one more. The bot waits in the queue, and is
-    served once there is another. The program accepts as soon as it can, so the others are taken before the bot connects."""
+    """So many descriptors are left when a bot connects, and its accept needs one more: for the bot, its connect, its record
+    if it has one, and a client of the control socket. The bot waits in the queue, and is served once there is another. The
+    program accepts as soon as it can, so the others are taken before the bot connects."""
     return [
         Hoards(count),
         Comes(),
@@ -113,13 +114,14 @@ daide-gate: bots wait: the system has no descriptor or no memory for another one
 daide-gate: bots are accepted again
 {ENDED}"""
 
-# A bot's connect is pending, and one descriptor is left, for the file of its record. A client of the control socket does
-# not get it. The bot is joined when the system tries its connect again, and its session is recorded.
-CONTROL_WAITS = [
+# A recorded bot has come, and its connect is pending. Two descriptors are left then, for its record and for a client of
+# the control socket, which comes first. The bot is joined when the system tries its connect again, and its session is
+# recorded, although the client still has its own.
+CONTROL_TAKES_ITS_OWN = [
+    Hoards(4),
     Comes(),
     Logs("session 1 began"),
-    Hoards(1),
-    RequestsStop("control"),
+    CallsControl("control"),
     Passes(250),
     Empties(),
     FinishesConnect(),
@@ -131,10 +133,10 @@ CONTROL_WAITS = [
 
 SCENES = [
     Many("silent_peers_keep_no_bot_out", END_SILENTLY, f"max_sessions = 1\nsessions = {SESSIONS}"),
-    Scene("few_descriptors_make_a_bot_wait", left_over(1), told=WAITS_FOR_ONE, verbose=True, waits=True),
-    Scene("few_descriptors_make_a_recorded_bot_wait", left_over(2), waits=True, recorded=1),
+    Scene("few_descriptors_make_a_bot_wait", left_over(2), told=WAITS_FOR_ONE, verbose=True, waits=True),
+    Scene("few_descriptors_make_a_recorded_bot_wait", left_over(3), waits=True, recorded=1),
     Scene(
-        "control_client_takes_no_last_descriptor", CONTROL_WAITS, "control = 'control'", BEGAN + ENDED,
+        "control_client_takes_no_descriptor_of_a_record", CONTROL_TAKES_ITS_OWN, "control = 'control'", BEGAN + ENDED,
         server=full_listener, verbose=True, recorded=1,
     ),
 ]

@@ -9,7 +9,20 @@ from frames import (
 )
 from stage import Scene, full_listener, silent_door
 
-UNREACHED = "daide-gate: cannot reach the server\n"
+
+def away(reason):
+    """Returns the line of a server that is away from now on, for this reason."""
+    return f"daide-gate: server {{server}} cannot be reached: {reason}\n"
+
+
+def reached_again(bots):
+    """Returns the line of a server that is reached again, after this many bots for which it was not."""
+    return f"daide-gate: server reached again after {bots} bots and * s\n"
+
+
+# A server whose port is closed, and one that answers no connect within its time.
+REFUSES = away("connection refused")
+NO_ANSWER = away("no answer in 5 s")
 
 
 def joins():
@@ -99,7 +112,7 @@ WORD_IS_UNKNOWN = [
     Hears(Server(0), FM),
 ]
 
-# A bot without a server counts as served.
+# A bot without a server counts as served. That the server is away is logged for the first of both alone.
 NOBODY_SERVES = [Comes(), HearsEnd(Bot(0)), Comes(), HearsEnd(Bot(1))]
 
 # A server with a full queue does not answer at all. Three bots come at once. The connect of each is given up after its
@@ -108,8 +121,9 @@ NEVER_ANSWERS = [*(Comes() for _ in range(3)), *(HearsEnd(Bot(number)) for numbe
 
 TELLS_OF_THREE = "".join(
     [f"daide-gate: session {number + 1} began: bot at 127.0.0.1:{{{number}}}\n" for number in range(3)]
+    + [NO_ANSWER]
     + [f"daide-gate: session {number + 1} ended after *.* s: no server; bot 0 relayed 0 prn 0 huh; "
-       f"server 0 relayed 0 prn 0 huh; 0 faults; level 0\n{UNREACHED}" for number in range(3)]
+       "server 0 relayed 0 prn 0 huh; 0 faults; level 0\n" for number in range(3)]
 )
 
 # An end that arrives with the last bytes is received after them, although the system reports it only once.
@@ -268,7 +282,7 @@ SCENES = [
     Scene("word_of_the_settings_goes_on", WORD_GOES_ON, WITH_XYZ),
     Scene("word_of_the_settings_goes_on_to_the_bot", WORD_COMES_FROM_THE_SERVER, WITH_XYZ),
     Scene("word_that_no_settings_have_gets_huh", WORD_IS_UNKNOWN),
-    Scene("nobody_listens_at_the_server", NOBODY_SERVES, "sessions = 2", UNREACHED * 2, server=silent_door),
+    Scene("nobody_listens_at_the_server", NOBODY_SERVES, "sessions = 2", REFUSES, server=silent_door),
     Scene(
         "server_that_never_answers_is_given_up", NEVER_ANSWERS, "sessions = 3", TELLS_OF_THREE, server=full_listener,
         verbose=True, in_order=False, waits=True,

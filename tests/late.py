@@ -3,7 +3,7 @@ says."""
 
 from acts import Bot, Comes, Empties, FinishesConnect, Hears, HearsEnd, MeetsNobody, Passes, Says, Server
 from frames import EM_01, FM, IM, OBS
-from gateway import UNREACHED, joins, opens
+from gateway import NO_ANSWER, joins, opens, reached_again
 from stage import Scene, full_listener
 
 # The server accepts only after the second for the bot's IM is over. That time runs from the accept of the bot, and not
@@ -67,7 +67,10 @@ OUTLASTS_ITS_CONNECT = [
 
 SCENES = [
     Scene("late_server_leaves_the_im_no_more_time", IS_MET_LATE, "im_seconds = 1", server=full_listener),
-    Scene("each_connect_has_its_own_time", FIRST_IS_GIVEN_UP, "sessions = 2", UNREACHED, server=full_listener),
+    Scene(
+        "each_connect_has_its_own_time", FIRST_IS_GIVEN_UP, "sessions = 2", NO_ANSWER + reached_again(1),
+        server=full_listener,
+    ),
     Scene("slow_connect_holds_up_no_other", SECOND_IS_MET_FIRST, "sessions = 2", server=full_listener),
     Scene("idle_session_waits_once_its_connect_is_done", OUTLASTS_ITS_CONNECT, waits=True),
 ]

@@ -5,7 +5,7 @@ from acts import (
     Server,
 )
 from frames import EM_08, FM, IM, LONG_NAME, LONGER_NAME, OBS, UNKNOWN
-from gateway import UNREACHED, asks, joins, opens
+from gateway import REFUSES, asks, joins, opens
 from stage import Scene, silent_door
 
 # The number of frames in more than a megabyte.
@@ -116,7 +116,8 @@ SPEAKS_TO_NOBODY = [Comes(), Says(Bot(0), IM), HearsEndAlone(Bot(0))]
 # The number of connects that are refused.
 REFUSED = 40
 
-# A refused connect is reported at once: the scene is shorter than the connect timeouts of all bots together.
+# A refused connect is reported at once: the scene is shorter than the connect timeouts of all bots together. Of all bots
+# the first alone has a line.
 ARE_REFUSED = [act for number in range(REFUSED) for act in (Comes(), HearsEnd(Bot(number)))]
 
 # The number of bots, one after another.
@@ -145,9 +146,9 @@ SCENES = [
     Scene("few_rounds_while_a_socket_closes", CLOSES_SLOWLY, "sessions = 2", waits=True),
     Scene("sockets_close_beside_an_idle_session", CLOSES_BESIDE, "sessions = 2", waits=True),
     Scene("sockets_close_beside_a_flood", CLOSES_BESIDE_A_FLOOD, "sessions = 2"),
-    Scene("failed_connect_ends_without_a_reset", SPEAKS_TO_NOBODY, told=UNREACHED, server=silent_door),
+    Scene("failed_connect_ends_without_a_reset", SPEAKS_TO_NOBODY, told=REFUSES, server=silent_door),
     Scene(
-        "refused_connects_are_told_at_once", ARE_REFUSED, f"sessions = {REFUSED}", UNREACHED * REFUSED,
+        "refused_connects_are_told_at_once", ARE_REFUSED, f"sessions = {REFUSED}", REFUSES,
         server=silent_door,
     ),
     Scene("many_bots_one_after_another", ONE_AFTER_ANOTHER, f"max_sessions = 1\nsessions = {MANY}"),

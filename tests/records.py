@@ -15,7 +15,7 @@ from frames import (
     EM_01, EM_08, EM_09, EM_0C, EM_0E, FM, IM, ITS_ERR, ITS_PRN, OBS, OBS_FM, OBS_GOF, RM, UNCLOSED, UNKNOWN, YES,
 )
 from gateway import (
-    GETS_PRN, HEARS_THE_END, IS_NOT_RESET, NOBODY_SERVES, STAYS_SILENT, UNREACHED, joins, one_floods, opens,
+    GETS_PRN, HEARS_THE_END, IS_NOT_RESET, NOBODY_SERVES, REFUSES, STAYS_SILENT, joins, one_floods, opens,
 )
 from held import Wrong, same
 from stage import SECONDS, Scene, full_listener, record_names, silent_door
@@ -321,13 +321,12 @@ daide-gate: turns spent
 daide-gate: session 1 ended after *.* s: turns spent; bot 0 relayed 0 prn 0 huh; server 0 relayed 0 prn 0 huh; 0 faults; level 0
 """
 
-TELLS_UNREACHED = """\
-daide-gate: session 1 began: bot at 127.0.0.1:{0}
+TELLS_UNREACHED = f"""\
+daide-gate: session 1 began: bot at 127.0.0.1:{{0}}
+{REFUSES}\
 daide-gate: session 1 ended after *.* s: no server; bot 0 relayed 0 prn 0 huh; server 0 relayed 0 prn 0 huh; 0 faults; level 0
-daide-gate: cannot reach the server
-daide-gate: session 2 began: bot at 127.0.0.1:{1}
+daide-gate: session 2 began: bot at 127.0.0.1:{{1}}
 daide-gate: session 2 ended after *.* s: no server; bot 0 relayed 0 prn 0 huh; server 0 relayed 0 prn 0 huh; 0 faults; level 0
-daide-gate: cannot reach the server
 """
 
 UNMADE = "daide-gate: session 1 is not recorded: its file could not be made (entity not found)\n"
@@ -461,8 +460,7 @@ LONG, TOO_LONG = 40_000, 500_010
 SCENES = [
     Scene("recorded_bot_gets_prn", GETS_PRN, recorded=1),
     Scene(
-        "recorded_run_tells_that_nobody_listens", NOBODY_SERVES, "sessions = 2", UNREACHED * 2, server=silent_door,
-        recorded=0,
+        "recorded_run_tells_that_nobody_listens", NOBODY_SERVES, "sessions = 2", REFUSES, server=silent_door, recorded=0,
     ),
     Scene("recorded_run_waits", STAYS_SILENT, "im_seconds = 1", waits=True, recorded=1),
     # A flood of a second may have more lines than a record.

@@ -148,10 +148,6 @@ class Run:
         queued = int(times.read_text(encoding="utf-8").split()[1]) / 1e9 if times.exists() else 0.0
         return used, queued
 
-    def descriptors(self):
-        """Returns the numbers of its descriptors."""
-        return {int(name) for name in os.listdir(f"/proc/{self.process.pid}/fd")}
-
     def close(self):
         """Ends the run, if it has not ended yet."""
         if not self.has_ended():
@@ -350,7 +346,7 @@ class Scene:
     name: str
     acts: list
     settings: str = ""
-    # The expected text on standard error, with `{0}` for the port of the first bot.
+    # The expected text on standard error, with `{0}` for the port of the first bot, and `{server}` for the server's address.
     told: str = ""
     # The socket at the server's address.
     server: object = field(default=open_listener)
@@ -397,7 +393,7 @@ class Scene:
         same(run.status, 0, f"status, told {run.told()!r}")
         same(run.printed, b"listening\n", "printed")
         beginning = BEGINNING.format(run.port, run.address) if self.verbose and self.begins else ""
-        told, wanted = without_reached(run.told()), beginning + self.told.format(*stage.ports)
+        told, wanted = without_reached(run.told()), beginning + self.told.format(*stage.ports, server=run.address)
         if not self.in_order:
             told, wanted = ("".join(sorted(text.splitlines(True))) for text in (told, wanted))
         same_but_counts(told, wanted, "told")

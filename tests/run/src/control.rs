@@ -263,8 +263,14 @@ type Asked = (&'static [Client], u64, usize, &'static [u8], bool, usize);
 const UNKNOWN: &[u8] = b"unknown request\n";
 
 /// A status without a session.
-const NOBODY: &[u8] =
-    b"{\"open\":0,\"connecting\":0,\"served\":0,\"unreached\":0,\"bots_may_wait\":false,\"stopping\":false,\"seconds\":0,\"sessions\":[\n]}\n";
+const NOBODY: &[u8] = b"\
+{\"open\":0,\"connecting\":0,\"served\":0,\"unreached\":0,\"bots_may_wait\":false,\"stopping\":false,\"seconds\":0,\
+\"server\":{\"state\":\"untried\",\"seconds\":0,\"unreached\":0},\"sessions\":[\n\
+],\"counts\":{\"declined\":0,\"dropped\":0,\"frames\":{\"faults\":0,\"relayed\":{\"bot\":0,\"server\":0},\
+\"prn\":{\"bot\":0,\"server\":0},\"huh\":{\"bot\":0,\"server\":0}},\"ends\":{\"bot ended\":0,\"server ended\":0,\
+\"bot lost\":0,\"server lost\":0,\"FM of bot\":0,\"FM of server\":0,\"EM of bot\":0,\"EM of server\":0,\
+\"fault of bot\":0,\"fault of server\":0,\"no IM in time\":0,\"stopped by the operator\":0,\"bot silent\":0,\
+\"server silent\":0,\"bot took nothing\":0,\"server took nothing\":0,\"turns spent\":0,\"no server\":0}}}\n";
 
 /// 63 bytes without a line feed.
 const LONG: &[u8] = b"status table status table status table status table status tabl";

@@ -3,7 +3,7 @@
 use daide_frame::code::Code;
 use daide_frame::per_side::PerSide;
 use daide_frame::side::Side;
-use daide_gate::{Account, Cause, FaultField, Level, SessionEnd, SideCounts};
+use daide_gate::{Account, Cause, FaultField, Level, SideCounts};
 use daide_protocol::BotName;
 use daide_protocol::ending::Ending;
 use daide_run::RecordNotice;
@@ -117,48 +117,73 @@ const TIMED: Lasted = Lasted {
 /// A session whose time is unknown.
 const UNTIMED: Lasted = Lasted { milliseconds: None };
 
-/// Four complete lines.
+/// The counts of a session, each another number.
+const COUNTS: Account = Account {
+    bot: SideCounts {
+        relayed: 5,
+        prn: 1,
+        huh: 2,
+    },
+    server: SideCounts {
+        relayed: 7,
+        prn: 3,
+        huh: 4,
+    },
+    faults: 6,
+    level: Level::L20,
+    name: BotName::Unknown,
+};
+
+/// Complete lines of sessions and of bots that get none.
 #[test]
 fn lines_of_a_session(rt: HostRuntime) -> Result<(), Fail> {
-    let end = SessionEnd {
-        cause: Cause::Session(Ending::Final(Side::Bot)),
-        account: Account {
-            bot: SideCounts {
-                relayed: 5,
-                prn: 1,
-                huh: 2,
-            },
-            server: SideCounts {
-                relayed: 7,
-                prn: 3,
-                huh: 4,
-            },
-            faults: 6,
-            level: Level::L20,
-            name: BotName::Unknown,
-        },
-        fault_field: None,
-    };
     let bot = "127.0.0.1:50000".parse()?;
     let own = "[::1]:40000".parse()?;
-    let began = SessionNotice::Began { number: 7, bot }.to_string(rt.alloc())?;
-    let reached = SessionNotice::Reached { number: 7, own }.to_string(rt.alloc())?;
     let timed = PerSide::new(Timed::NONE, Timed::NONE);
-    let ended = SessionNotice::of_end((7, TIMED), end, &timed, 60).to_string(rt.alloc())?;
-    let alone = SessionNotice::of_no_server(8, UNTIMED).to_string(rt.alloc())?;
-    let lines = (
-        began.as_str(),
-        reached.as_str(),
-        ended.as_str(),
-        alone.as_str(),
-    );
-    let want = (
-        "session 7 began: bot at 127.0.0.1:50000",
-        "session 7 reached the server from [::1]:40000",
-        "session 7 ended after 12.4 s: FM of bot; bot 5 relayed 1 prn 2 huh; server 7 relayed 3 prn 4 huh; 6 faults; level 20",
-        "session 8 ended: no server; bot 0 relayed 0 prn 0 huh; server 0 relayed 0 prn 0 huh; 0 faults; level 0",
-    );
-    same(&lines, &want, &"lines")
+    let cause = Cause::Session(Ending::Final(Side::Bot));
+    let ended = SessionNotice::Ended {
+        number: 7,
+        lasted: TIMED,
+        why: why_of(cause, None, &timed, 60),
+        account: COUNTS,
+    };
+    let alone = SessionNotice::Ended {
+        number: 8,
+        lasted: UNTIMED,
+        why: Why::NoServer,
+        account: Account::new(),
+    };
+    let lines = [
+        (
+            SessionNotice::Began { number: 7, bot },
+            "session 7 began: bot at 127.0.0.1:50000",
+        ),
+        (
+            SessionNotice::Declined { bot },
+            "bot at 127.0.0.1:50000 may not come",
+        ),
+        (
+            SessionNotice::Dropped { bot },
+            "bot at 127.0.0.1:50000 is dropped: the system cannot follow its connection",
+        ),
+        (
+            SessionNotice::Reached { number: 7, own },
+            "session 7 reached the server from [::1]:40000",
+        ),
+        (
+            ended,
+            "session 7 ended after 12.4 s: FM of bot; bot 5 relayed 1 prn 2 huh; server 7 relayed 3 prn 4 huh; 6 faults; level 20",
+        ),
+        (
+            alone,
+            "session 8 ended: no server; bot 0 relayed 0 prn 0 huh; server 0 relayed 0 prn 0 huh; 0 faults; level 0",
+        ),
+    ];
+    for (notice, want) in lines {
+        let line = notice.to_string(rt.alloc())?;
+        same(&line.as_str(), &want, &want)?;
+    }
+    Ok(())
 }
 
 /// A line of a run's capacity | its text.
