@@ -7,6 +7,7 @@
 
 mod bytes;
 mod checks;
+mod lines;
 mod network;
 mod observed;
 mod operator;

@@ -319,6 +319,7 @@ fn followed(state: &mut State, index: usize, key: usize) -> bool {
         };
         if is_bot {
             state.pause();
+            state.refused_bots = state.refused_bots.saturating_add(1);
         }
         return false;
     }

@@ -3,6 +3,7 @@
 ghost use Rattle.std.specs.Prelude.{◌≡◌};
 ghost use Rattle.daide_io.specs.Ports.{IsPullWithin};
 
+use crate::lines::Lines;
 use crate::network::{MemoryConnection, MemoryNetwork, World};
 use crate::state::{RunTimes, State};
 use crate::wire::Place;
@@ -18,8 +19,6 @@ use daide_settings::Settings;
 use daide_sockets::ports::SocketPorts;
 use daide_sockets::system::Sockets;
 use std::alloc::{Allocator, Global};
-use std::io;
-use std::io::{ErrorKind, Write};
 
 /// The most frames that a machine has for one side.
 const MOST_FRAMES: usize = 64;
@@ -64,6 +63,14 @@ fn ends_sessions(world: &World) -> bool {
     match world.state.try_borrow_mut() {
         Ok(state) => state.operator.ends_sessions,
         Err(_) => false,
+    }
+}
+
+/// Returns the number of bots that the system refused to follow.
+fn refused_bots(world: &World) -> u64 {
+    match world.state.try_borrow_mut() {
+        Ok(state) => state.refused_bots,
+        Err(_) => 0,
     }
 }
 
@@ -335,92 +342,6 @@ impl Ports for ObservedPorts<'_, '_> {
 
 }
 
-/// The lines of a run. Now and then one is refused.
-#[derive(Drop)]
-pub struct Lines<'n> {
-    world: &'n World,
-    line: Vec<u8>,
-    is_whole: bool,
-    /// Whether the last line was refused.
-    is_lost: bool,
-    /// The number of lines, with those that were refused.
-    count: u64,
-}
-
-/// How the line of a session begins.
-const BEGINS: &[u8] = b"daide-gate: session ";
-
-/// Returns what follows the digits and points of a text.
-fn after_number(text: &[u8]) -> &[u8] {
-    let mut rest = text;
-    while let [b'0'..=b'9' | b'.', others @ ..] = rest {
-        rest = others;
-    }
-    rest
-}
-
-impl<'n> Lines<'n> {
-    /// Creates them.
-    pub fn new(alloc: Global, world: &'n World) -> Lines<'n> {
-        Lines {
-            world,
-            line: Vec::new(alloc),
-            is_whole: true,
-            is_lost: false,
-            count: 0,
-        }
-    }
-
-    /// Begins a line. Returns whether it is refused.
-    fn begins(&mut self) -> bool {
-        self.line.clear();
-        self.is_whole = false;
-        self.count = self.count.saturating_add(1);
-        self.is_lost = match self.world.state.try_borrow_mut() {
-            Ok(mut state) => state.random.one_in(40),
-            Err(_) => false,
-        };
-        self.is_lost
-    }
-
-    /// Returns whether the last line is that of a session without a server.
-    fn tells_no_server(&self) -> bool {
-        let Some(rest) = self.line.as_slice().strip_prefix(BEGINS) else {
-            return false;
-        };
-        let Some(rest) = after_number(rest).strip_prefix(b" ended") else {
-            return false;
-        };
-        // A session has no time if the clock could not be read.
-        let rest = match rest.strip_prefix(b" after ") {
-            Some(time) => after_number(time).strip_prefix(b" s").unwrap_or(&[]),
-            None => rest,
-        };
-        rest.starts_with(b": no server; ")
-    }
-
-    /// Returns whether the last line begins with this text.
-    fn begins_with(&self, text: &str) -> bool {
-        self.line.as_slice().starts_with(text.as_bytes())
-    }
-}
-
-impl Write for Lines<'_> {
-    fn write(&mut self, bytes: &[u8]) -> io::Result<usize> {
-        if self.is_whole && self.begins() {
-            self.is_whole = true;
-            return Err(ErrorKind::WouldBlock.into());
-        }
-        self.line.extend_from_slice(bytes)?;
-        self.is_whole = bytes.ends_with(b"\n");
-        Ok(bytes.len())
-    }
-
-    fn flush(&mut self) -> io::Result<()> {
-        Ok(())
-    }
-}
-
 /// The sockets of a run, observed.
 #[derive(Drop)]
 pub struct ObservedSockets<'w, 'n> {
@@ -440,6 +361,8 @@ pub struct ObservedSockets<'w, 'n> {
     stopped_and_retired: u64,
     /// Whether the turns of the session that is retired next are spent.
     is_spent: bool,
+    /// The bots in a row that did not reach the server, up to now.
+    away: u64,
 }
 
 /// Notes the bot that was accepted last, with its session's number.
@@ -522,6 +445,7 @@ impl<'w, 'n> ObservedSockets<'w, 'n> {
             has_stopped: false,
             stopped_and_retired: 0,
             is_spent: false,
+            away: 0,
         }
     }
 
@@ -544,7 +468,7 @@ impl<'w, 'n> ObservedSockets<'w, 'n> {
         let lines = &self.sockets.errors;
         let text = format!(in self.alloc; "daide-gate: session {number} {what}");
         let is_right = match text {
-            Ok(text) => lines.is_lost || lines.begins_with(text.as_str()),
+            Ok(text) => lines.has(text.as_str()),
             Err(_) => true,
         };
         if !is_right || lines.count != before.saturating_add(1) {
@@ -552,14 +476,53 @@ impl<'w, 'n> ObservedSockets<'w, 'n> {
         }
     }
 
-    /// Checks that one more line was written since there were `before`, for a bot without a server, unless it was
-    /// refused.
-    fn check_no_server(&self, before: u64) {
-        let lines = &self.sockets.errors;
-        let is_right = lines.is_lost || lines.tells_no_server();
-        if !is_right || lines.count != before.saturating_add(1) {
-            fail(self.world, "no line tells of a bot without a server", 0);
+    /// Checks that so many more lines were written since there were `before`, and if there is one, that the last one is
+    /// right.
+    fn check_lines(&self, before: u64, more: u64, is_right: bool, what: &'static str) {
+        if self.sockets.errors.count != before.saturating_add(more) || more > 0 && !is_right {
+            fail(self.world, what, 0);
         }
+    }
+
+    /// Checks the lines since there were `before`, of a bot whose connect has ended without a server: that of the end of its
+    /// session, and before it that the server is away, if the bot is the first one. None is about the server if an operator
+    /// ended the connect.
+    fn check_failed(&mut self, before: u64) {
+        let is_stopped = ends_sessions(self.world);
+        let is_first = self.away == 0 && !is_stopped;
+        let lines = &self.sockets.errors;
+        let cause = if is_stopped {
+            "stopped by the operator"
+        } else {
+            "no server"
+        };
+        let tells_away = !is_first || lines.had("daide-gate: server 127.0.0.1:");
+        let is_right = lines.has_end_by(cause) && tells_away;
+        let more = if is_first { 2 } else { 1 };
+        self.check_lines(before, more, is_right, "no line tells of a bot without a server");
+        if !is_stopped {
+            self.away = self.away.saturating_add(1);
+        }
+    }
+
+    /// Checks that the server is logged as reached again exactly if the bot before did not reach it.
+    fn check_reached(&mut self, before: u64) {
+        let away = self.away;
+        let text = format!(in self.alloc; "daide-gate: server reached again after {away} bots and ");
+        let is_right = match text {
+            Ok(text) => self.sockets.errors.has(text.as_str()),
+            Err(_) => true,
+        };
+        let more = if away > 0 { 1 } else { 0 };
+        self.check_lines(before, more, is_right, "another line tells of a server that is reached");
+        self.away = 0;
+    }
+
+    /// Checks that exactly a bot that the system refused to follow has a line, of those that were not accepted.
+    fn check_dropped(&self, before: u64, refused: u64) {
+        let more = refused_bots(self.world).saturating_sub(refused);
+        let is_right = self.sockets.errors.has("daide-gate: bot at 127.0.0.1:0 is dropped: ");
+        self.check_lines(before, more, is_right, "no line tells of a bot that is dropped");
     }
 
     /// Returns observed ports of a session.
@@ -671,7 +634,7 @@ impl<'w, 'n> System<ObservedPorts<'w, 'n>> for ObservedSockets<'w, 'n> {
     }
 
     fn accept(&mut self, place: usize) -> bool {
-        let before = self.sockets.errors.count;
+        let (before, refused) = (self.sockets.errors.count, refused_bots(self.world));
         let came = self.sockets.accept(place);
         if came && self.has_stopped {
             fail(self.world, "a bot is accepted after a stop", 0);
@@ -683,6 +646,8 @@ impl<'w, 'n> System<ObservedPorts<'w, 'n>> for ObservedSockets<'w, 'n> {
             if let Ok(mut state) = self.world.state.try_borrow_mut() {
                 note_bot(&mut state, self.came);
             }
+        } else {
+            self.check_dropped(before, refused);
         }
         came
     }
@@ -690,12 +655,15 @@ impl<'w, 'n> System<ObservedPorts<'w, 'n>> for ObservedSockets<'w, 'n> {
     fn connected(&mut self, place: usize) -> Connect<ObservedPorts<'w, 'n>> {
         let before = self.sockets.errors.count;
         let connect = match self.sockets.connected(place) {
-            Connect::Ready(ports) => match self.observe(ports) {
-                Some(ports) => Connect::Ready(ports),
-                None => Connect::Failed,
-            },
+            Connect::Ready(ports) => {
+                self.check_reached(before);
+                match self.observe(ports) {
+                    Some(ports) => Connect::Ready(ports),
+                    None => Connect::Failed,
+                }
+            }
             Connect::Failed => {
-                self.check_no_server(before);
+                self.check_failed(before);
                 Connect::Failed
             }
             Connect::Pending => Connect::Pending,

@@ -63,7 +63,7 @@ const PATIENCE: u64 = 2_000;
 
 /// How a whole answer to `status json` begins and ends.
 const BEGINS: &[u8] = b"{\"open\":";
-const ENDS: &[u8] = b"\n]}\n";
+const ENDS: &[u8] = b"}}}\n";
 
 impl Operator {
     /// Creates the operator of a run with this seed, which begins now. One run of four has a control socket, and one of

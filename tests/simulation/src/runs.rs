@@ -1,8 +1,9 @@
 //! Runs of a simulation, one after the other.
 
+use crate::lines::Lines;
 use crate::network::{MemoryNetwork, World};
+use crate::observed::ObservedSockets;
 use crate::operator::Operator;
-use crate::observed::{Lines, ObservedSockets};
 use crate::random::Random;
 use crate::state::{Fault, RunTimes, State, Tally};
 use crate::style::Company;

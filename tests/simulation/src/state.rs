@@ -152,6 +152,8 @@ pub struct State {
     pub resumes_at: u64,
     /// The wire that was accepted last.
     pub newest: Option<usize>,
+    /// The number of bots that the system refused to follow.
+    pub refused_bots: u64,
     /// The client at the control socket.
     pub operator: Operator,
     next_id: u64,
@@ -201,6 +203,7 @@ impl State {
             accepts: true,
             resumes_at: 0,
             newest: None,
+            refused_bots: 0,
             operator: Operator::none(alloc),
             next_id: 1,
             polls: 0,
