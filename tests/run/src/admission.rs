@@ -188,6 +188,55 @@ fn small_writes_are_not_delayed(rt: HostRuntime) -> Result<(), Fail> {
     holds(at_once, "the bot's and the server's")
 }
 
+/// Returns whether the connect of the first bot fails.
+fn is_first_unreached(alloc: Global, system: &mut HostSockets<'_, '_>) -> Result<bool, Fail> {
+    let mut ready = ReadyQueue::new(alloc, 1)?;
+    let mut came = false;
+    for _ in 0..MOST_WAITS {
+        system.poll(true, &mut ready);
+        came = came || system.accept(0);
+        if came && matches!(system.connected(0), Connect::Failed) {
+            return Ok(true);
+        }
+    }
+    Ok(false)
+}
+
+/// Checks the lines of a run whose server is at these addresses, where nobody listens.
+fn logs_last(rt: &HostRuntime, pool: &Pool, servers: &[SocketAddr]) -> Result<(), Fail> {
+    let settings = plain_settings(rt.alloc())?;
+    let (listener, _bot) = door_with_bot(rt)?;
+    let mut told = Vec::new(rt.alloc());
+    let Some(mut system) = sockets_of(rt, pool, (listener, servers), &settings, &mut told) else {
+        return Err(Fail::new("no sockets"));
+    };
+    holds(
+        is_first_unreached(rt.alloc(), &mut system)?,
+        "the bot is unreached",
+    )?;
+    drop(system);
+    let [.., last] = servers else {
+        return Err(Fail::new("no address"));
+    };
+    let want = format!(in rt.alloc();
+        "daide-gate: server {last} cannot be reached: connection refused\n"
+    )?;
+    same(&told.as_slice(), &want.as_bytes(), &"lines")
+}
+
+/// The line of a server that is away has the address that was tried last, and why the connect to it failed.
+#[test]
+fn last_address_of_a_server_is_named(rt: HostRuntime) -> Result<(), Fail> {
+    let first = TcpListener::bind(&rt, any_port())?;
+    let second = TcpListener::bind(&rt, any_port())?;
+    let servers = [first.local_addr()?, second.local_addr()?];
+    drop(first);
+    drop(second);
+    let pool = Pool::new(rt.alloc());
+    logs_last(&rt, &pool, &servers)?;
+    logs_last(&rt, &pool, &servers[..1])
+}
+
 /// Returns the state of a connect that has just begun.
 fn status_of(
     network: &mut OsNetwork<'_, HostRuntime>,
