@@ -115,15 +115,17 @@ fn first_ports<'w>(
     None
 }
 
-/// Returns a run's sockets with this listener and these server addresses.
+/// The server's addresses, and the time in which a bot has to reach one of them.
+type Servers<'w> = (&'w [SocketAddr], Duration);
+
+/// Returns a run's sockets with this listener and this server.
 fn sockets_of<'w, 't>(
     rt: &'w HostRuntime,
     pool: &'w Pool,
-    (listener, servers): (daide_sockets::TcpListener, &'w [SocketAddr]),
+    (listener, (servers, time)): (daide_sockets::TcpListener, Servers<'w>),
     settings: &'w Settings,
     told: &'t mut Vec<u8>,
 ) -> Option<HostSockets<'w, 't>> {
-    let time = Duration::from_secs(5);
     let network = network_of(rt, listener).ok()?;
     let table = SocketTable::new(rt.alloc(), 1, 2).ok()?;
     let resources = (network, servers, table, pool);
@@ -166,8 +168,8 @@ fn are_first_undelayed(alloc: Global, system: &mut HostSockets<'_, '_>) -> bool 
     }
 }
 
-/// The same for the first bot at a listener of its own, with these server addresses.
-fn sends_at_once(rt: &HostRuntime, pool: &Pool, servers: &[SocketAddr]) -> Result<bool, Fail> {
+/// The same for the first bot at a listener of its own, with this server.
+fn sends_at_once(rt: &HostRuntime, pool: &Pool, servers: Servers<'_>) -> Result<bool, Fail> {
     let settings = plain_settings(rt.alloc())?;
     let (listener, _bot) = door_with_bot(rt)?;
     let mut told = Vec::new(rt.alloc());
@@ -184,8 +186,20 @@ fn small_writes_are_not_delayed(rt: HostRuntime) -> Result<(), Fail> {
     let nobody = TcpListener::bind(&rt, any_port())?.local_addr()?;
     let server = TcpListener::bind(&rt, any_port())?;
     let pool = Pool::new(rt.alloc());
-    let at_once = sends_at_once(&rt, &pool, &[nobody, server.local_addr()?])?;
+    let servers = [nobody, server.local_addr()?];
+    let at_once = sends_at_once(&rt, &pool, (&servers, Duration::from_secs(5)))?;
     holds(at_once, "the bot's and the server's")
+}
+
+/// An address that does not answer takes half of the time of a connect to two, and the server is reached at the other one.
+#[test]
+fn silent_address_leaves_time_for_the_next(rt: HostRuntime) -> Result<(), Fail> {
+    let silent = full_listener(&rt)?;
+    let server = TcpListener::bind(&rt, any_port())?;
+    let servers = [silent.local_addr()?, server.local_addr()?];
+    let pool = Pool::new(rt.alloc());
+    let is_reached = sends_at_once(&rt, &pool, (&servers, Duration::from_secs(1)))?;
+    holds(is_reached, "the second address")
 }
 
 /// Returns whether the connect of the first bot fails.
@@ -207,7 +221,8 @@ fn logs_last(rt: &HostRuntime, pool: &Pool, servers: &[SocketAddr]) -> Result<()
     let settings = plain_settings(rt.alloc())?;
     let (listener, _bot) = door_with_bot(rt)?;
     let mut told = Vec::new(rt.alloc());
-    let Some(mut system) = sockets_of(rt, pool, (listener, servers), &settings, &mut told) else {
+    let resources = (listener, (servers, Duration::from_secs(5)));
+    let Some(mut system) = sockets_of(rt, pool, resources, &settings, &mut told) else {
         return Err(Fail::new("no sockets"));
     };
     holds(
