@@ -4,7 +4,7 @@ use Rattle.std.proofs.Common.{◌≡◌, ◌≤◌, ℕ, zero, suc, ◌+◌, Lis
 use Rattle.std.specs.declared.io.Error.{Error}
 use Rattle.std.specs.declared.net.socket_addr.SocketAddr.{SocketAddr}
 use Rattle.daide_io.specs.Network.{NetworkCall, AcceptsConnection, BeginsConnect}
-use Rattle.daide_sockets.specs.Accepting.{IsNextTry, part_of, AcceptsBeside, LacksDescriptors, HasDescriptors, FollowsAtMostOnce, FollowsAccepted, FollowsBegun, ConnectsFrom, AcceptsThenConnects}
+use Rattle.daide_sockets.specs.Accepting.{IsNextTry, time_part, AcceptsBeside, LacksDescriptors, HasDescriptors, FollowsAtMostOnce, FollowsAccepted, FollowsBegun, ConnectsFrom, AcceptsThenConnects}
 
 module _ {C : Type 0} where
   -- one more call was made
@@ -96,8 +96,8 @@ module _ {C : Type 0} where
 -- ---- the time of each address
 
 -- of five seconds, in nanoseconds
-parts_are_equal : (part_of 5000000000 1 ≡ 5000000000) × (part_of 5000000000 2 ≡ 2500000000) × (part_of 5000000000 3 ≡ 1666666666)
-    × (part_of 5000000000 0 ≡ 5000000000)
+parts_are_equal : (time_part 5000000000 1 ≡ 5000000000) × (time_part 5000000000 2 ≡ 2500000000) × (time_part 5000000000 3 ≡ 1666666666)
+    × (time_part 5000000000 0 ≡ 5000000000)
 parts_are_equal = (refl, refl, refl, refl)
 
 none_is_next : IsNextTry None false 2500000000 None × IsNextTry None true 0 None

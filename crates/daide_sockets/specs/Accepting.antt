@@ -160,9 +160,9 @@ pub record TriesOn {N C : Type 0} (transition : N → NetworkCall C → N → Ty
   pub connects : ConnectsFrom transition addresses key before count mid new
 
 -- the part of a time, in nanoseconds, that each of this number of addresses has
-abbrev pub part_of : ℕ → ℕ → ℕ
-part_of time zero = time
-part_of time (suc others) = time / min (suc others) 4294967295
+abbrev pub time_part : ℕ → ℕ → ℕ
+time_part time zero = time
+time_part time (suc others) = time / min (suc others) 4294967295
 
 -- the moment at which the next address is tried: after this part of the time, if an address is left
 abbrev pub IsNextTry : Option Instant → Bool → ℕ → Option Instant → Type 0

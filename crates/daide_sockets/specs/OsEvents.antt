@@ -7,8 +7,8 @@ use Rattle.daide_io.specs.Network.{NetworkCall, Polls}
 use Rattle.daide_io.specs.declared.network.SocketEvent.{SocketEvent}
 
 -- the report of one event: the key under which its socket is followed, and its flags as the system has them
-abbrev pub event_reported : Event → SocketEvent
-event_reported event = record {
+abbrev pub socket_event_of : Event → SocketEvent
+socket_event_of event = record {
   key = (event_token event).0;
   is_readable = is_readable event;
   is_writable = is_writable event;
@@ -22,5 +22,5 @@ event_reported event = record {
 -- nothing is said.
 abbrev pub PassesOn : {C : Type 0} → (ℕ → Type 0) → List Event → NetworkCall C → Type 0
 PassesOn Refuses events (Polls timeout socket_events) =
-    (socket_events ≡ map event_reported events) ⊎ WasRefused Refuses
+    (socket_events ≡ map socket_event_of events) ⊎ WasRefused Refuses
 PassesOn Refuses events _ = Unit {0}

@@ -1,5 +1,5 @@
 -- What the connects of a run showed of its server. (own)
-use Rattle.std.specs.Prelude.{Option}
+use Rattle.std.specs.Prelude.{ℕ, ◌+◌, min, Option}
 use Rattle.std.specs.declared.time.Instant.{Instant}
 use Rattle.daide_status.specs.Counts.{count_sum}
 use Rattle.daide_status.specs.declared.snapshot.ServerState.{ServerState}
@@ -29,6 +29,10 @@ away_from Up now known = record { state = Away; since = now; unreached = 1 }
 
 abbrev pub away_at : Option Instant → KnownServer → KnownServer
 away_at now known = away_from known.state now known
+
+-- the number of bots for which the server could not be reached, after one more, in 32 bits
+abbrev pub one_more_unreached : ℕ → ℕ
+one_more_unreached unreached = min (unreached + 1) 4294967295
 
 -- what a status shows of it
 abbrev pub server_shown : Option Instant → KnownServer → ServerStatus

@@ -11,7 +11,7 @@ ghost use Rattle.daide_io.specs.Network.{AsksConnect, Listens, StopsListening, c
 ghost use Rattle.daide_io.specs.declared.network.ConnectReport.{ConnectReport};
 ghost use Rattle.daide_settings.specs.Ranges.{host_of, may_come};
 ghost use Rattle.daide_sockets.specs.Accepting.{is_bot_due, is_declined, may_connect, descriptors_for, round_begun, shut, AcceptsOnce, AcceptsOneBot, BringsBot};
-ghost use Rattle.daide_sockets.specs.Accepting.{AsksAtMostOnce, BringsNoBot, IsNextTry, part_of, ConnectsFrom, HasConnected, TriesOn, GivesConnection, Pauses};
+ghost use Rattle.daide_sockets.specs.Accepting.{AsksAtMostOnce, BringsNoBot, IsNextTry, time_part, ConnectsFrom, HasConnected, TriesOn, GivesConnection, Pauses};
 ghost use Rattle.daide_sockets.specs.PollTimes.{listener_armed};
 ghost use Rattle.daide_sockets.specs.KeptRows.{ChangesRows};
 ghost use Rattle.daide_sockets.specs.Pairing.{ConnectsTo, StaysPending, IsFreshConnect, IsFresh, IsJoined, pending_connects};
@@ -339,8 +339,8 @@ impl<'w, S: Drop> Model for PendingConnection<'w, S> {
 }
 
 /// Returns an equal part of a time for each of this number of addresses.
-fn part_of(time: Duration, addresses: usize) -> Duration
-    ensures { as_nanos result ≡ part_of (as_nanos time) addresses }
+fn time_part(time: Duration, addresses: usize) -> Duration
+    ensures { as_nanos result ≡ time_part (as_nanos time) addresses }
 {
     let count = u32::try_from(addresses).unwrap_or(u32::MAX);
     time.checked_div(count).unwrap_or(time)
@@ -450,11 +450,11 @@ impl<'w, S: Duplex + Drop> PendingConnection<'w, S> {
         ensures im_due { IsAfter poller.old.table.reading (as_nanos times.0) result.im_due }
         ensures gives_up { IsAfter poller.old.table.reading (as_nanos times.1) result.gives_up }
         ensures moves_on { IsNextTry poller.old.table.reading (nat_lt result.tried (length servers.now))
-            (part_of (as_nanos times.1) (length servers.now)) result.moves_on }
+            (time_part (as_nanos times.1) (length servers.now)) result.moves_on }
     {
         let (identity, bot) = came;
         let (im_time, connect_time) = times;
-        let part = part_of(connect_time, servers.len());
+        let part = time_part(connect_time, servers.len());
         let gives_up = poller.table.after(connect_time);
         let im_due = poller.table.after(im_time);
         let (mut tried, mut failure) = (0, None);

@@ -6,7 +6,7 @@
 ghost use Rattle.std.specs.Prelude.{◌≡◌, OnOk, OnErr, map};
 ghost use Rattle.mio.specs.Events.{items};
 ghost use Rattle.daide_causes.specs.Causes.{WasRefused};
-ghost use Rattle.daide_sockets.specs.OsEvents.{PassesOn, event_reported};
+ghost use Rattle.daide_sockets.specs.OsEvents.{PassesOn, socket_event_of};
 
 use crate::connection::Connection;
 use daide_causes::Growth;
@@ -49,7 +49,7 @@ pub enum NetworkError {
 
 /// Returns what the system reports of one socket.
 fn socket_event(event: &Event) -> SocketEvent
-    ensures { result ≡ event_reported event.now }
+    ensures { result ≡ socket_event_of event.now }
 {
     let Token(key) = event.token();
     SocketEvent {
@@ -68,7 +68,7 @@ fn pass_on<A: Growth>(
     events: &[Event],
     socket_events: &mut Vec<SocketEvent, A>,
 ) -> Result<(), AllocError>
-    ensures all { OnOk result (socket_events.new.items ≡ map event_reported events.now) }
+    ensures all { OnOk result (socket_events.new.items ≡ map socket_event_of events.now) }
     ensures refused { OnErr result (WasRefused A.Refuses) }
 {
     socket_events.clear();

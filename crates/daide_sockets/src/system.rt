@@ -25,7 +25,7 @@ ghost use Rattle.daide_sockets.specs.Pairing.{Arriving, ClosesBothAt, TakesOut, 
 ghost use Rattle.daide_sockets.specs.Present.{AdmitsBot, HasRoomForOne, hosts_of, without_bot};
 ghost use Rattle.daide_sockets.specs.Rows.{AreRowsOf, KeepsClosingRows, closing_keys};
 ghost use Rattle.daide_sockets.specs.Scheduling.{BeginsListening, RunEvolves, pair_of, run_state};
-ghost use Rattle.daide_sockets.specs.ServerStates.{away_at, reached_at, untried_at};
+ghost use Rattle.daide_sockets.specs.ServerStates.{away_at, one_more_unreached, reached_at, untried_at};
 ghost use Rattle.daide_sockets.specs.Snapshot.{IsSessionRow};
 ghost use Rattle.daide_sockets.specs.Clock.{due_after, IsSeconds, IsIdleTime, is_past};
 ghost use Rattle.daide_sockets.specs.Table.{Table, IsPollTime, disarmed, key_of};
@@ -587,13 +587,17 @@ impl<'w, N: Network, E: Sink + Drop> System<SocketPorts<'w, N::Connection>> for 
         ensures connected { (ports : PortsOf N.Connection) → result ≡ Connect.Ready ports → HasConnected N.transition
             ports.sides.server.stream.stream self.old.poller.network self.new.poller.network }
         ensures present { result ≢ Connect.Failed → self.new.present ≡ self.old.present }
-        ensures kept { result ≡ Connect.Pending → (self.new.server ≡ self.old.server) × (self.new.counts ≡ self.old.counts) }
+        ensures kept { result ≡ Connect.Pending → (self.new.server ≡ self.old.server) × (self.new.counts ≡ self.old.counts)
+            × (self.new.unreached ≡ self.old.unreached) }
         ensures reached { (ports : PortsOf N.Connection) → result ≡ Connect.Ready ports →
-            (self.new.server ≡ reached_at self.old.poller.table.reading self.old.server) × (self.new.counts ≡ self.old.counts) }
+            (self.new.server ≡ reached_at self.old.poller.table.reading self.old.server) × (self.new.counts ≡ self.old.counts)
+            × (self.new.unreached ≡ self.old.unreached) }
         ensures counted { result ≡ Connect.Failed →
             (self.new.counts ≡ ending_counted (end_cause_of (why_unreached self.old.control.stops_now)) self.old.counts)
             × (self.new.server ≡ (if self.old.control.stops_now then self.old.server
-            else away_at self.old.poller.table.reading self.old.server)) }
+            else away_at self.old.poller.table.reading self.old.server))
+            × (self.new.unreached ≡ (if self.old.control.stops_now then self.old.unreached
+            else one_more_unreached self.old.unreached)) }
         ensures leaves { result ≡ Connect.Failed → (arrival : Arriving N.Connection)
             × TakesOut self.old.arrivals.items place arrival self.new.arrivals.items
             × (self.new.present.bots.items ≡ without_bot arrival.identity.number self.old.present.bots.items)

@@ -15,7 +15,7 @@ ghost use Rattle.daide_sockets.specs.Pairing.{ClosesAt, Comes, ComesWith, TakesO
 ghost use Rattle.daide_sockets.specs.Present.{AdmitsBot, HasRoomForOne, hosts_of, without_bot};
 ghost use Rattle.daide_sockets.specs.Rows.{KeepsClosingRows, closing_keys};
 ghost use Rattle.daide_sockets.specs.Scheduling.{RunEvolves, run_state};
-ghost use Rattle.daide_sockets.specs.ServerStates.{away_at, reached_at};
+ghost use Rattle.daide_sockets.specs.ServerStates.{away_at, one_more_unreached, reached_at};
 ghost use Rattle.daide_sockets.specs.Table.{forgotten, key_of};
 ghost use Rattle.daide_sockets.specs.Wakeups.{GoesBy, is_of_connect};
 ghost use Rattle.daide_sockets.specs.declared.admission.NoBot.{NoBot as NoBotOf};
@@ -87,12 +87,18 @@ impl<'w, N: Network, E: Sink + Drop> Sockets<'w, N, E> {
         }
     }
 
-    /// Notes that the server could not be reached, and logs it if no bot noted that before: the address that was tried last, and
-    /// why that failed.
+    /// Notes that the server could not be reached for one more bot, and logs it if no bot noted that before: the address that was
+    /// tried last, and why that failed.
     pub(super) fn note_away(&mut self, tried: usize, failure: Option<ErrorKind>)
         ensures server { self.new.server ≡ away_at self.old.poller.table.reading self.old.server }
-        ensures same { self.new ≡ record self.old { errors = self.new.errors; server = self.new.server } }
+        ensures unreached { self.new.unreached ≡ one_more_unreached self.old.unreached }
+        ensures same { self.new ≡ record self.old {
+          errors = self.new.errors;
+          server = self.new.server;
+          unreached = self.new.unreached;
+        } }
     {
+        self.unreached = self.unreached.saturating_add(1);
         let before = self.server.state;
         self.server = self.server.away(self.poller.table.now());
         if matches!(before, ServerState::Away) {
@@ -131,7 +137,6 @@ impl<'w, N: Network, E: Sink + Drop> Sockets<'w, N, E> {
           poller = self.new.poller;
           closings = self.new.closings;
           present = self.new.present;
-          unreached = self.new.unreached;
           counts = self.new.counts;
           errors = self.new.errors;
         } }
@@ -140,7 +145,6 @@ impl<'w, N: Network, E: Sink + Drop> Sockets<'w, N, E> {
         let number = left.identity.number;
         let lasted = Lasted::between(left.identity.since, self.poller.table.now());
         self.present.remove(number);
-        self.unreached = self.unreached.saturating_add(1);
         self.counts.count_end(end_cause(why));
         self.log_session(SessionNotice::Ended {
             number,
