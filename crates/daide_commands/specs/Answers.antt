@@ -12,7 +12,7 @@ use Rattle.daide_command_line.specs.declared.arguments.Order.TheVariants.{Transc
 use Rattle.daide_command_line.specs.CommandLine.{ParsesTo, IsOrderOf}
 use Rattle.daide_command_line.specs.declared.arguments.RunOrder.{RunOrder}
 use Rattle.daide_run.specs.declared.running.RunFault.{RunFault}
-use Rattle.daide_tools.specs.Controlling.{StatusRuns}
+use Rattle.daide_tools.specs.Controlling.{StatusRuns, StopRuns}
 use Rattle.daide_tools.specs.Endings.{ShowRuns, CheckRuns, FrameRuns, SettingsRuns}
 use Rattle.daide_tools.specs.Opened.{IsTextAt}
 
@@ -38,9 +38,11 @@ RunOrderEnds Opens remaining Runs order old new status = ((status ≡ 1) × (new
 
 -- ---- an order
 
--- Files by their names, as `IsTextAt` takes them, and runs. `read` and `write` say that a read of standard input or a write of
--- the output failed, `refused` and `unsettled` that memory was refused, the latter for settings.
-module _ {F : Type 0} (Opens : List ℕ → Result F IoError → Type 0) (remaining : F → Option (List ℕ)) (Runs : RunRelation)
+-- Files by their names, as `IsTextAt` takes them, runs by their control paths, as `ReachesRun` takes them with what was
+-- written to a stream and what it has left, and runs of a text. `read` and `write` say that a read of standard input or a
+-- write of the output failed, `refused` and `unsettled` that memory was refused, the latter for settings.
+module _ {F S : Type 0} (Opens : List ℕ → Result F IoError → Type 0) (remaining : F → Option (List ℕ))
+    (Reaches : List ℕ → Result S IoError → Type 0) (written left : S → Option (List ℕ)) (Runs : RunRelation)
     (read refused unsettled write : Type 0) where
   -- The end of an order, by the bytes of standard input and by the rest of them that is unread.
   abbrev pub OrderEnds : Order → Option (List ℕ) → Option (List ℕ) → Option (List ℕ) → Option (List ℕ) → ℕ → Type 0
@@ -53,8 +55,10 @@ module _ {F : Type 0} (Opens : List ℕ → Result F IoError → Type 0) (remain
   OrderEnds (Run order) known rest old new status = RunOrderEnds Opens remaining Runs order old new status
   OrderEnds BadSide known rest old new status = (status ≡ 2) × (new ≡ old)
   OrderEnds BadLevel known rest old new status = (status ≡ 2) × (new ≡ old)
-  OrderEnds (Status order) known rest old new status = (status ≤ 1) × StatusRuns write order old new status
-  OrderEnds (Stop order) known rest old new status = (status ≤ 1) × (new ≡ old)
+  OrderEnds (Status order) known rest old new status =
+      (status ≤ 1) × StatusRuns Opens remaining Reaches written left write order old new status
+  OrderEnds (Stop order) known rest old new status =
+      (status ≤ 1) × (new ≡ old) × StopRuns Opens remaining Reaches written left order status
   OrderEnds BadFormat known rest old new status = (status ≡ 2) × (new ≡ old)
   OrderEnds BadMessageFormat known rest old new status = (status ≡ 2) × (new ≡ old)
   OrderEnds BadTimeout known rest old new status = (status ≡ 2) × (new ≡ old)
@@ -70,13 +74,14 @@ pub record UsageEnds (why : ErrorKind) (old new : Option (List ℕ)) (status : �
 
 -- ---- the arguments
 
-module _ {F : Type 0} (Opens : List ℕ → Result F IoError → Type 0) (remaining : F → Option (List ℕ)) (Runs : RunRelation)
+module _ {F S : Type 0} (Opens : List ℕ → Result F IoError → Type 0) (remaining : F → Option (List ℕ))
+    (Reaches : List ℕ → Result S IoError → Type 0) (written left : S → Option (List ℕ)) (Runs : RunRelation)
     (read refused unsettled write : Type 0) where
   -- the end of the program: that of the order for this parse, or a usage error, which reads nothing of standard input
   abbrev pub GivenEnds : Result (Option (Text × List Row)) ErrorKind → Option (List ℕ) → Option (List ℕ) →
       Option (List ℕ) → Option (List ℕ) → ℕ → Type 0
   GivenEnds (Ok asked) known rest old new status = (order : Order) × IsOrderOf asked order
-      × OrderEnds Opens remaining Runs read refused unsettled write order known rest old new status
+      × OrderEnds Opens remaining Reaches written left Runs read refused unsettled write order known rest old new status
   GivenEnds (Err why) known rest old new status = (rest ≡ known) × UsageEnds why old new status
 
   -- the status and the output are those of the order for the arguments, by what happened outside

@@ -28,15 +28,13 @@ use daide_tools::controlling::{run_status, run_stop};
 use daide_tools::faults::{CLEAN, FAULT, NOT_RELAYED, USAGE, print_fault};
 use daide_tools::framing::run_frame;
 use daide_tools::judging::run_settings;
-use daide_tools::opening::FileOpener;
+use daide_tools::opening::{FileOpener, RunReacher};
 use daide_tools::showing::run_show;
 use daide_tools::transcribing::run_transcript;
 use std::alloc::Global;
 use std::convert::AsStr;
 use std::io;
-use std::io::Write;
-use std::net::Net;
-use std::rt::Clock;
+use std::io::{Read, Write};
 
 /// Writes the requested help, or the usage error. Returns the status.
 fn report_usage<S: AsStr, O: Write, E: Write>(
@@ -63,15 +61,15 @@ fn report_usage<S: AsStr, O: Write, E: Write>(
 }
 
 /// Carries out an order. Returns the status.
-fn carry_out<R: AllocGlobal + FileOpener + Clock + Net, I: Source, O: Sink, E: Sink>(
-    rt: &R,
-    order: Order<'_, '_>,
-    input: &mut I,
-    output: &mut O,
-    errors: &mut E,
-) -> io::Result<u8>
+fn carry_out<
+    T: Read + Write + Drop,
+    R: AllocGlobal + FileOpener + RunReacher<T>,
+    I: Source,
+    O: Sink,
+    E: Sink,
+>(rt: &R, order: Order<'_, '_>, input: &mut I, output: &mut O, errors: &mut E) -> io::Result<u8>
     ensures bounded { IfOk result (λ status. status ≤ NOT_RELAYED) }
-    ensures ended { IfOk result (OrderEnds R.Opens R.File.remaining
+    ensures ended { IfOk result (OrderEnds R.Opens R.File.remaining R.Reaches T.contents T.remaining
         (λ records text. TextRuns records ⟦<OsNetwork<'static, R> as Network>⟧.transition
         ⟦<Connection as Duplex>⟧.to_give ⟦<Connection as Duplex>⟧.taken ⟦<Connection as Duplex>⟧.calls
         ⟦<Recording<SocketPorts<'static, Connection>, SessionFile<R::File>> as Ports>⟧.transition
@@ -123,29 +121,32 @@ fn carry_out<R: AllocGlobal + FileOpener + Clock + Net, I: Source, O: Sink, E: S
 ///
 /// `bounded`: the status is one of the four of `faults`.
 ///
-/// `answered`: what the program does, its status and its output are those of the order that the words give
-/// (`OrderEnds`). For `show`, `check` and `frame` the order says what they write of standard input, for `check FILE..` and
-/// `settings FILE` what they write of the files that were opened by these names. `run` runs the text of the file that was
-/// opened by its name, with the folder of `--record`, where each session has its record, or standard error a notice
-/// (`run_text`). `status` prints the answers of the runs in the order of their files. A failed write ends `show`, `check`,
-/// `frame`, `settings` and `status` only if a write failed, and a failed read of standard input `show`, `check` and `frame`
-/// only if a read failed. Words that are not understood return 2 and write nothing to the output. Help and version return 0 or
-/// 1, and refused memory returns 1 (`UsageEnds`).
+/// `answered`: what the program does, its status and its output are those of the order that the words give (`OrderEnds`).
+/// For `show`, `check` and `frame` the order says what they write of standard input, for `check FILE..` and `settings FILE`
+/// what they write of the files that were opened by these names. `run` runs the text of the file that was opened by its
+/// name, with the folder of `--record`, where each session has its record, or standard error a notice (`run_text`).
+/// `status` prints the answers of the runs in the order of their files, each from the run that was reached at the control
+/// path of the settings of its file. `stop` returns 0 only if the run of its settings was reached so, was sent the request
+/// of the order, and then ended the stream (`ReachesRun`). A failed write ends `show`, `check`, `frame`, `settings` and
+/// `status` only if a write failed, and a failed read of standard input `show`, `check` and `frame` only if a read failed.
+/// Words that are not understood return 2 and write nothing to the output. Help and version return 0 or 1, and refused
+/// memory returns 1 (`UsageEnds`).
 ///
 /// Premise: no word begins with a hyphen and a digit. With such a word `frame` takes negative numbers, and `clap`'s
 /// contracts say nothing of that; then the program ends as some order does.
 ///
 /// Not said: the texts of help, usage and faults; that memory was refused, which `run_show`, `run_frame` and
 /// `run_settings` say of any memory.
-pub fn answer<R: AllocGlobal + FileOpener + Clock + Net, S: AsStr, I: Source, O: Sink, E: Sink>(
-    rt: &R,
-    words: &[S],
-    input: &mut I,
-    output: &mut O,
-    errors: &mut E,
-) -> io::Result<u8>
+pub fn answer<
+    T: Read + Write + Drop,
+    R: AllocGlobal + FileOpener + RunReacher<T>,
+    S: AsStr,
+    I: Source,
+    O: Sink,
+    E: Sink,
+>(rt: &R, words: &[S], input: &mut I, output: &mut O, errors: &mut E) -> io::Result<u8>
     ensures bounded { IfOk result (λ status. status ≤ NOT_RELAYED) }
-    ensures answered { IfOk result (CommandEnds R.Opens R.File.remaining
+    ensures answered { IfOk result (CommandEnds R.Opens R.File.remaining R.Reaches T.contents T.remaining
         (λ records text. TextRuns records ⟦<OsNetwork<'static, R> as Network>⟧.transition
         ⟦<Connection as Duplex>⟧.to_give ⟦<Connection as Duplex>⟧.taken ⟦<Connection as Duplex>⟧.calls
         ⟦<Recording<SocketPorts<'static, Connection>, SessionFile<R::File>> as Ports>⟧.transition

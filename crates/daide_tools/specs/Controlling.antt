@@ -1,13 +1,17 @@
 -- What the commands `status` and `stop` send to a run. (own)
-use Rattle.std.specs.Prelude.{◌≡◌, ◌≢◌, ◌≤◌, ◌⊎◌, ℕ, ◌++◌, max, nat_lt, Bool, true, false, List, [], ◌∷◌, length, map, Option, Some, None, option_map, unwrap_or, IfSome}
+use Rattle.std.specs.Prelude.{◌≡◌, ◌≢◌, ◌≤◌, ◌⊎◌, ℕ, ◌++◌, max, nat_lt, Bool, true, false, List, [], ◌∷◌, length, map, Option, Some, None, option_map, unwrap_or, IfSome, Result, Ok}
 use Rattle.std.specs.Io.KnownBytes.{Appends}
+use Rattle.std.specs.declared.io.ErrorKind.{ErrorKind}
 use Rattle.daide_command_line.specs.declared.arguments.StatusOrder.{StatusOrder}
+use Rattle.daide_command_line.specs.declared.arguments.StopOrder.{StopOrder}
+use Rattle.daide_settings.specs.Settings.{Given}
 use Rattle.daide_status.specs.declared.request.ControlRequest.{ControlRequest}
-use Rattle.daide_status.specs.declared.request.ControlRequest.TheVariants.{Stop, StopNow}
+use Rattle.daide_status.specs.declared.request.ControlRequest.TheVariants.{Status, Stop, StopNow}
 use Rattle.daide_status.specs.declared.request.Format.{Format}
 use Rattle.daide_status.specs.declared.request.Format.TheVariants.{Table, Json, Prometheus}
 use Rattle.daide_status.specs.Requests.{request_text}
 use Rattle.daide_tools.specs.Checking.{name_line}
+use Rattle.daide_tools.specs.Endings.{AreSettingsAt}
 use Rattle.daide_tools.specs.declared.controlling.RequestFault.{RequestFault}
 use Rattle.daide_tools.specs.declared.controlling.RequestFault.TheVariants.{Unreached, Unaccepted, Unsent, Unread, Silent}
 use Rattle.daide_tools.specs.declared.controlling.RequestFault.TheVariants.{Unknown, TooLong, StillRunning, Write}
@@ -43,15 +47,14 @@ title_for true Json name = []
 title_for true Prometheus name = []
 title_for false format name = []
 
--- the status of one run: 0 with its answer, or 1 and nothing is printed
-abbrev pub EndsStatus : List ℕ → Option (List ℕ) → Option (List ℕ) → ℕ → Type 0
-EndsStatus title old new status =
-    ((status ≡ 0) × IsAnswerAfter title old new) ⊎ ((status ≡ 1) × (new ≡ old))
+-- A request is carried out with status 0, and then this is so; or the status is 1, and nothing is printed.
+abbrev pub EndsRequest : Type 0 → Option (List ℕ) → Option (List ℕ) → ℕ → Type 0
+EndsRequest Carried old new status = ((status ≡ 0) × Carried) ⊎ ((status ≡ 1) × (new ≡ old))
 
 -- the same, or a write failed
-abbrev pub EndsStatusOr : Type 0 → List ℕ → Option (List ℕ) → Option (List ℕ) → Option ℕ → Type 0
-EndsStatusOr write title old new (Some status) = EndsStatus title old new status
-EndsStatusOr write title old new None = write
+abbrev pub EndsRequestOr : Type 0 → Type 0 → Option (List ℕ) → Option (List ℕ) → Option ℕ → Type 0
+EndsRequestOr write Carried old new (Some status) = EndsRequest Carried old new status
+EndsRequestOr write Carried old new None = write
 
 -- a status that is not printed: nothing is written, unless a write failed
 abbrev pub IsUnanswered : Type 0 → Option (List ℕ) → Option (List ℕ) → RequestFault → Type 0
@@ -65,23 +68,14 @@ IsUnanswered write old new TooLong = new ≡ old
 IsUnanswered write old new StillRunning = new ≡ old
 IsUnanswered write old new Write = write
 
--- The status of each run, in order. `before` and `status` are the status of those before and of all.
-abbrev pub EndsStatuses : List (List ℕ) → Option (List ℕ) → Option (List ℕ) → ℕ → ℕ → Type 0
-EndsStatuses [] old new before status = (new ≡ old) × (status ≡ before)
-EndsStatuses (title ∷ titles) old new before status =
-    (mid : Option (List ℕ)) × (one : ℕ) × EndsStatus title old mid one × EndsStatuses titles mid new (max before one) status
-
--- The status of the runs of these files. Without files there is none.
-abbrev pub StatusEnds : Type 0 → Format → List (List ℕ) → Option (List ℕ) → Option (List ℕ) → ℕ → Type 0
-StatusEnds write format [] old new status = (status ≡ 1) × (new ≡ old)
-StatusEnds write format (name ∷ names) old new status =
-    EndsStatuses (map (title_for (nat_lt 1 (length (name ∷ names))) format) (name ∷ names)) old new 0 status
-    ⊎ (write × (status ≡ 1))
-
--- the same for an order
-abbrev pub StatusRuns : Type 0 → StatusOrder → Option (List ℕ) → Option (List ℕ) → ℕ → Type 0
-StatusRuns write order old new status = StatusEnds write order.format
-    (unwrap_or (option_map (λ names. map (λ name. name.now) names.now) order.settings) []) old new status
+-- The status of each run, in order, by what is so of the run of a name if its answer is printed. `before` and `status` are
+-- the status of those before and of all.
+abbrev pub EndsStatuses : (List ℕ → Option (List ℕ) → Option (List ℕ) → Type 0) → List (List ℕ) → Option (List ℕ) →
+    Option (List ℕ) → ℕ → ℕ → Type 0
+EndsStatuses Answers [] old new before status = (new ≡ old) × (status ≡ before)
+EndsStatuses Answers (name ∷ names) old new before status =
+    (mid : Option (List ℕ)) × (one : ℕ) × EndsRequest (Answers name old mid) old mid one
+    × EndsStatuses Answers names mid new (max before one) status
 
 -- The streams by which a request is made: what was written to one, and what is still to be read from it.
 module _ {S : Type 0} (contents remaining : S → Option (List ℕ)) (request : ControlRequest) (stream : S) where
@@ -96,3 +90,40 @@ module _ {S : Type 0} (contents remaining : S → Option (List ℕ)) (request : 
   abbrev pub EndsAfter : Type 0
   EndsAfter = (sent : S) × Appends (contents stream) (contents sent) (request_line request)
       × IfSome (remaining sent) (λ rest. rest ≡ [])
+
+-- A run was reached at this control path, and this is so of the stream to it. `Reaches` relates a path to what was reached
+-- at it.
+abbrev pub ReachedAt : {S : Type 0} → (List ℕ → Result S ErrorKind → Type 0) → Option (List ℕ) → (S → Type 0) → Type 0
+ReachedAt {S} Reaches control Holds =
+    (path : List ℕ) × (control ≡ Some path) × (stream : S) × Reaches path (Ok stream) × Holds stream
+
+-- Files by their names and by the bytes that one has left, and runs by their control paths and by the streams to them.
+module _ {F S : Type 0} (Opens : List ℕ → Result F ErrorKind → Type 0) (bytes : F → Option (List ℕ))
+    (Reaches : List ℕ → Result S ErrorKind → Type 0) (contents remaining : S → Option (List ℕ)) where
+  -- the run with the settings of the file of this name was reached at their control path, and this is so of the stream to it
+  abbrev pub ReachesRun : List ℕ → (S → Type 0) → Type 0
+  ReachesRun name Holds =
+      (given : Given) × AreSettingsAt Opens bytes name given × ReachedAt Reaches given.control Holds
+
+  -- that run sent a status of this form, which is printed after the title of one of several or of one alone
+  abbrev pub RunAnswers : Bool → Format → List ℕ → Option (List ℕ) → Option (List ℕ) → Type 0
+  RunAnswers several format name old new = ReachesRun name
+      (λ stream. AnswersOver contents remaining (Status format) stream (title_for several format name) old new)
+
+  -- The status of the runs of these files. Without files there is none.
+  abbrev pub StatusEnds : Type 0 → Format → List (List ℕ) → Option (List ℕ) → Option (List ℕ) → ℕ → Type 0
+  StatusEnds write format [] old new status = (status ≡ 1) × (new ≡ old)
+  StatusEnds write format (name ∷ names) old new status =
+      EndsStatuses (RunAnswers (nat_lt 1 (length (name ∷ names))) format) (name ∷ names) old new 0 status
+      ⊎ (write × (status ≡ 1))
+
+  -- the same for an order
+  abbrev pub StatusRuns : Type 0 → StatusOrder → Option (List ℕ) → Option (List ℕ) → ℕ → Type 0
+  StatusRuns write order old new status = StatusEnds write order.format
+      (unwrap_or (option_map (λ names. map (λ name. name.now) names.now) order.settings) []) old new status
+
+  -- The request of an order to stop was sent to the run with its settings, whose stream then ended; or the status is 1.
+  abbrev pub StopRuns : StopOrder → ℕ → Type 0
+  StopRuns order status =
+      ((status ≡ 0) × ReachesRun order.settings.now (EndsAfter contents remaining (stop_request order.is_now)))
+      ⊎ (status ≡ 1)

@@ -1,15 +1,16 @@
 //! `status` and `stop`: what an operator requests of a run, over its control socket.
 //!
-//! A request is one line, and its answer is what comes until the end of the stream. The operating system decides who
-//! listens at the path, so the contracts are about any streams.
+//! A request is one line, and its answer is what comes until the end of the stream. The contracts say of which run: that
+//! which was reached at the control path of the settings of the order's file (`ReachesRun`). The operating system decides
+//! who listens there.
 
-ghost use Rattle.std.specs.Prelude.{◌≡◌, ◌≢◌, ◌≤◌, ◌++◌, [], length, map, option_map, IfOk, IfErr, IfSome, OnOk, OnErr};
+ghost use Rattle.std.specs.Prelude.{◌≡◌, ◌≢◌, ◌≤◌, ◌⊎◌, ◌++◌, [], length, map, option_map, Some, Ok, IfOk, IfErr, IfSome, OnOk, OnErr};
 ghost use Rattle.std.specs.Io.KnownBytes.{Appends};
 ghost use Rattle.daide_causes.specs.Causes.{HasFailed};
-ghost use Rattle.daide_tools.specs.Controlling.{AnswersOver, EndsAfter, EndsStatusOr, IsAnswerAfter, IsUnanswered, StatusEnds, StatusRuns, longest_answer, request_line, stop_request, title_for, title_of};
+ghost use Rattle.daide_tools.specs.Controlling.{AnswersOver, EndsAfter, EndsRequestOr, IsUnanswered, ReachedAt, RunAnswers, StatusEnds, StatusRuns, StopRuns, longest_answer, request_line, stop_request, title_for, title_of};
 
 use crate::faults::{CLEAN, FAULT, print_fault};
-use crate::opening::{FileOpener, connect};
+use crate::opening::{FileOpener, RunReacher};
 use crate::settings_file::{SettingsFileFault, settings_at};
 use crate::several::write_name;
 use daide_causes::Sink;
@@ -18,9 +19,6 @@ use daide_settings::ControlPath;
 use daide_status::{ControlRequest, Format};
 use std::alloc::Global;
 use std::io::{ErrorKind, Read, Write};
-use std::net::Net;
-use std::os::unix::net::UnixStream;
-use std::rt::Clock;
 use std::time::Duration;
 use std::{fmt, io};
 
@@ -81,14 +79,15 @@ fn is_timeout(kind: ErrorKind) -> bool {
 }
 
 /// Connects to the run at a path.
-fn reach<R: Clock + Net>(
+fn reach<S: Read + Write + Drop, R: RunReacher<S>>(
     rt: &R,
     path: &ControlPath,
     timeout: Option<Duration>,
-) -> Result<UnixStream, RequestFault>
-    ensures { IfErr result (λ fault. fault ≢ RequestFault.Write) }
+) -> Result<S, RequestFault>
+    ensures fault { IfErr result (λ fault. fault ≢ RequestFault.Write) }
+    ensures reached { IfOk result (λ stream. R.Reaches path.now (Ok stream)) }
 {
-    match connect(rt, path.as_str(), timeout) {
+    match rt.reach_run(path.as_str(), timeout) {
         Ok(stream) => Ok(stream),
         Err(kind) if is_timeout(kind) => Err(RequestFault::Unaccepted),
         Err(kind) => Err(RequestFault::Unreached(kind)),
@@ -181,15 +180,16 @@ fn status_over<S: Read + Write, O: Sink>(
 }
 
 /// Requests the status of the run at a path, and prints it (`status_over`).
-fn print_status<R: AllocGlobal + Clock + Net, O: Sink>(
+fn print_status<S: Read + Write + Drop, R: AllocGlobal + RunReacher<S>, O: Sink>(
     rt: &R,
     path: &ControlPath,
     title: Option<&str>,
     request: ControlRequest,
     output: &mut O,
 ) -> Result<(), RequestFault>
-    ensures answered { OnOk result (IsAnswerAfter (title_of (option_map (λ name. name.now) title.entry))
-        (O.contents output.old) (O.contents output.new)) }
+    ensures answered { OnOk result (ReachedAt R.Reaches (Some path.now) (λ stream.
+        AnswersOver S.contents S.remaining request stream
+        (title_of (option_map (λ name. name.now) title.entry)) (O.contents output.old) (O.contents output.new))) }
     ensures refused { IfErr result (IsUnanswered (HasFailed O.Fails) (O.contents output.old) (O.contents output.new)) }
 {
     let mut stream = reach(rt, path, Some(Duration::from_secs(ANSWER_SECONDS)))?;
@@ -218,11 +218,14 @@ fn stop_over<S: Read + Write>(is_now: bool, stream: &mut S) -> Result<(), Reques
 }
 
 /// Requests a stop of the run at a path, and waits until the run is over (`stop_over`).
-fn stop_run<R: Clock + Net>(
+fn stop_run<S: Read + Write + Drop, R: RunReacher<S>>(
     rt: &R,
     path: &ControlPath,
     order: StopOrder<'_>,
-) -> Result<(), RequestFault> {
+) -> Result<(), RequestFault>
+    ensures { OnOk result (ReachedAt R.Reaches (Some path.now)
+        (EndsAfter S.contents S.remaining (stop_request order.entry.is_now))) }
+{
     let timeout = order
         .timeout
         .map(|seconds| Duration::from_secs(seconds as u64));
@@ -302,7 +305,7 @@ impl StatusForm {
 }
 
 /// Prints the status of the run with this control socket. Returns the status of the program, or `None` after a failed write.
-fn status_of<R: AllocGlobal + Clock + Net, O: Sink, E: Sink>(
+fn status_of<S: Read + Write + Drop, R: AllocGlobal + RunReacher<S>, O: Sink, E: Sink>(
     rt: &R,
     control: &Option<ControlPath>,
     name: &str,
@@ -311,7 +314,9 @@ fn status_of<R: AllocGlobal + Clock + Net, O: Sink, E: Sink>(
     errors: &mut E,
 ) -> io::Result<Option<u8>>
     ensures bounded { IfOk result (λ one. IfSome one (λ status. status ≤ FAULT)) }
-    ensures ended { IfOk result (EndsStatusOr (HasFailed O.Fails) (title_for form.is_several form.format name.now)
+    ensures ended { IfOk result (EndsRequestOr (HasFailed O.Fails) (ReachedAt R.Reaches control.now (λ stream.
+        AnswersOver S.contents S.remaining (ControlRequest.Status form.format) stream
+        (title_for form.is_several form.format name.now) (O.contents output.old) (O.contents output.new)))
         (O.contents output.old) (O.contents output.new)) }
 {
     let Some(path) = control else {
@@ -332,7 +337,7 @@ fn status_of<R: AllocGlobal + Clock + Net, O: Sink, E: Sink>(
 }
 
 /// Does the same for the run with the settings of this name.
-fn status_at<R: AllocGlobal + FileOpener + Clock + Net, O: Sink, E: Sink>(
+fn status_at<S: Read + Write + Drop, R: AllocGlobal + FileOpener + RunReacher<S>, O: Sink, E: Sink>(
     rt: &R,
     name: &str,
     form: StatusForm,
@@ -340,8 +345,9 @@ fn status_at<R: AllocGlobal + FileOpener + Clock + Net, O: Sink, E: Sink>(
     errors: &mut E,
 ) -> io::Result<Option<u8>>
     ensures bounded { IfOk result (λ one. IfSome one (λ status. status ≤ FAULT)) }
-    ensures ended { IfOk result (EndsStatusOr (HasFailed O.Fails) (title_for form.is_several form.format name.now)
-        (O.contents output.old) (O.contents output.new)) }
+    ensures ended { IfOk result (EndsRequestOr (HasFailed O.Fails)
+        (RunAnswers R.Opens R.File.remaining R.Reaches S.contents S.remaining form.is_several form.format
+        name.now (O.contents output.old) (O.contents output.new)) (O.contents output.old) (O.contents output.new)) }
 {
     match settings_at(rt, name) {
         Ok(settings) => status_of(rt, &settings.control, name, form, output, errors),
@@ -353,16 +359,15 @@ fn status_at<R: AllocGlobal + FileOpener + Clock + Net, O: Sink, E: Sink>(
 }
 
 /// Prints the status of the runs with the settings of these names, one after the other. Returns the status of the program.
-fn status_of_each<R: AllocGlobal + FileOpener + Clock + Net, O: Sink, E: Sink>(
-    rt: &R,
-    names: &[&str],
-    format: Format,
-    output: &mut O,
-    errors: &mut E,
-) -> io::Result<u8>
+fn status_of_each<
+    S: Read + Write + Drop,
+    R: AllocGlobal + FileOpener + RunReacher<S>,
+    O: Sink,
+    E: Sink,
+>(rt: &R, names: &[&str], format: Format, output: &mut O, errors: &mut E) -> io::Result<u8>
     ensures bounded { IfOk result (λ status. status ≤ FAULT) }
-    ensures ended { IfOk result (StatusEnds (HasFailed O.Fails) format (map (λ name. name.now) names.now)
-        (O.contents output.old) (O.contents output.new)) }
+    ensures ended { IfOk result (StatusEnds R.Opens R.File.remaining R.Reaches S.contents S.remaining
+        (HasFailed O.Fails) format (map (λ name. name.now) names.now) (O.contents output.old) (O.contents output.new)) }
 {
     if names.is_empty() {
         return end_refused(None, ControlFault::NoControl, errors);
@@ -385,16 +390,18 @@ fn status_of_each<R: AllocGlobal + FileOpener + Clock + Net, O: Sink, E: Sink>(
 
 /// Prints the status of the runs with the settings of files, one after the other. Returns the status of the program.
 ///
-/// `ended`: the answers are printed in the order of the files, each table of several after the name of its file. For a run
-/// without an answer nothing is printed, and the status is 1. After a failed write nothing more is said.
-pub fn run_status<R: AllocGlobal + FileOpener + Clock + Net, O: Sink, E: Sink>(
-    rt: &R,
-    order: StatusOrder<'_, '_>,
-    output: &mut O,
-    errors: &mut E,
-) -> io::Result<u8>
+/// `ended`: the answers are printed in the order of the files, each table of several after the name of its file. An answer
+/// is that of the run that was reached at the control path of the settings of its file, to a request of the order's form.
+/// For a run without an answer nothing is printed, and the status is 1. After a failed write nothing more is said.
+pub fn run_status<
+    S: Read + Write + Drop,
+    R: AllocGlobal + FileOpener + RunReacher<S>,
+    O: Sink,
+    E: Sink,
+>(rt: &R, order: StatusOrder<'_, '_>, output: &mut O, errors: &mut E) -> io::Result<u8>
     ensures bounded { IfOk result (λ status. status ≤ FAULT) }
-    ensures ended { IfOk result (StatusRuns (HasFailed O.Fails) order.entry (O.contents output.old) (O.contents output.new)) }
+    ensures ended { IfOk result (StatusRuns R.Opens R.File.remaining R.Reaches S.contents S.remaining
+        (HasFailed O.Fails) order.entry (O.contents output.old) (O.contents output.new)) }
 {
     match order.settings {
         Some(names) => status_of_each(rt, names, order.format, output, errors),
@@ -403,13 +410,15 @@ pub fn run_status<R: AllocGlobal + FileOpener + Clock + Net, O: Sink, E: Sink>(
 }
 
 /// Stops the run with this control socket, and waits until it is over. Returns the status of the program.
-fn stop_of<R: Clock + Net, E: Sink>(
+fn stop_of<S: Read + Write + Drop, R: RunReacher<S>, E: Sink>(
     rt: &R,
     control: &Option<ControlPath>,
     order: StopOrder<'_>,
     errors: &mut E,
 ) -> io::Result<u8>
-    ensures { IfOk result (λ status. status ≤ FAULT) }
+    ensures bounded { IfOk result (λ status. status ≤ FAULT) }
+    ensures stopped { IfOk result (λ status. ((status ≡ CLEAN) × ReachedAt R.Reaches control.now
+        (EndsAfter S.contents S.remaining (stop_request order.entry.is_now))) ⊎ (status ≡ FAULT)) }
 {
     let Some(path) = control else {
         return end_refused(None, ControlFault::NoControl, errors);
@@ -422,12 +431,19 @@ fn stop_of<R: Clock + Net, E: Sink>(
 
 /// Stops the run with the settings of a file, and waits until it is over. Returns the status of the program. Nothing is
 /// written to the output.
-pub fn run_stop<R: AllocGlobal + FileOpener + Clock + Net, E: Sink>(
+///
+/// `stopped`: the status is 0 only if the run was reached at the control path of the settings of the order's file, the
+/// request of the order was sent over that stream, and then came its end (`StopRuns`). Otherwise it is 1.
+///
+/// Not said: why a stop was not carried out.
+pub fn run_stop<S: Read + Write + Drop, R: AllocGlobal + FileOpener + RunReacher<S>, E: Sink>(
     rt: &R,
     order: StopOrder<'_>,
     errors: &mut E,
 ) -> io::Result<u8>
-    ensures { IfOk result (λ status. status ≤ FAULT) }
+    ensures bounded { IfOk result (λ status. status ≤ FAULT) }
+    ensures stopped { IfOk result (StopRuns R.Opens R.File.remaining R.Reaches S.contents S.remaining
+        order.entry) }
 {
     match settings_at(rt, order.settings) {
         Ok(settings) => stop_of(rt, &settings.control, order, errors),

@@ -70,10 +70,8 @@ fn connect_within<R: Clock + Net>(
     Err(ErrorKind::WouldBlock)
 }
 
-/// Connects to the control socket at a path, or returns the system's error: `WouldBlock` if its queue was full for this time,
-/// or for five seconds, if that is shorter. Each read waits for what is left of the time; without a time it waits until
-/// something comes.
-pub(crate) fn connect<R: Clock + Net>(
+/// Connects to the control socket at a path (`RunReacher::reach_run`).
+fn connect<R: Clock + Net>(
     rt: &R,
     path: &str,
     timeout: Option<Duration>,
@@ -86,5 +84,30 @@ pub(crate) fn connect<R: Clock + Net>(
     match made.and_then(|()| stream.set_read_timeout(left)) {
         Ok(()) => Ok(stream),
         Err(error) => Err(error.kind()),
+    }
+}
+
+/// Reaches runs by their control sockets, over streams `S`; every system with a clock and a network does, over Unix streams.
+/// Code that is generic in both knows neither `Reaches` nor what is written to an `S` and left of it, so it can show these
+/// only of the results of calls. So a contract that has `Reaches` speaks of what was sent and received over the stream that
+/// was reached at this very path.
+///
+/// Not said: that the system connects to the socket at that path, or that a run listens there. Tests show it.
+pub trait RunReacher<S>: Clock + Net {
+    /// Reaching a run at this path had this result.
+    ghost Reaches: { List ℕ → Result S ErrorKind → Type 0 };
+
+    /// Connects to the control socket at a path, or returns the system's error: `WouldBlock` if its queue was full for this
+    /// time, or for five seconds, if that is shorter. Each read waits for what is left of the time; without a time it waits
+    /// until something comes.
+    fn reach_run(&self, path: &str, timeout: Option<Duration>) -> Result<S, ErrorKind>
+        ensures { Reaches path.now result };
+}
+
+impl<R: Clock + Net> RunReacher<UnixStream> for R {
+    ghost Reaches = { λ _ _. Unit {0} };
+
+    fn reach_run(&self, path: &str, timeout: Option<Duration>) -> Result<UnixStream, ErrorKind> {
+        connect(self, path, timeout)
     }
 }
