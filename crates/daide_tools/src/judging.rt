@@ -26,8 +26,8 @@ use std::net::Net;
 use std::rt::{Clock, Files};
 use thiserror::Error;
 
-/// The descriptors of a run without a session: its three streams, the listener, the poller, which takes two, and one that
-/// each accept takes for a moment.
+/// The descriptors of a run without a session: its three streams, the listener, the poller, which takes two, and one that an
+/// accept of a bot leaves free.
 const OWN_DESCRIPTORS: usize = 7;
 
 /// The descriptors of a control socket: its listener and its four connections.
