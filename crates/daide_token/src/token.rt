@@ -11,7 +11,7 @@ use crate::names;
 use std::marker::Model;
 
 /// A token. Its abstract value is a whole number, 0 to FFFF hexadecimal.
-#[derive(Clone, Copy, Debug, PartialEq, Eq, PartialOrd, Ord, Hash)]
+#[derive(Clone, Copy, Debug, PartialEq, Eq)]
 pub struct Token {
     bits: u16,
 }
