@@ -3,6 +3,7 @@
 An act is played repeatedly until it is done. It fails once it can no longer succeed.
 """
 
+import contextlib
 import math
 import os
 import resource
@@ -488,6 +489,24 @@ class Narrows(Act):
 
 
 @dataclass(frozen=True)
+class Sips(Act):
+    """For this many milliseconds it reads at most 4,096 bytes each hundredth of a second, and discards them. Its peer's
+    stream does not end."""
+
+    who: object
+    millis: int
+
+    def play(self, stage):
+        now = time.monotonic()
+        if now >= stage.next_sip:
+            stage.peer(self.who).sip()
+            stage.next_sip = now + 0.01
+        over = stage.act_began + self.millis / 1000
+        stage.awaits_moment(min(stage.next_sip, over))
+        return now >= over
+
+
+@dataclass(frozen=True)
 class Settles(Act):
     """For this many milliseconds nobody could send a byte of what was started."""
 
@@ -574,6 +593,12 @@ class Peer:
             pass
         except OSError as fault:
             self.has_ended, self.fault = True, fault
+
+    def sip(self):
+        """Reads at most 4,096 of the available bytes, and discards them."""
+        with contextlib.suppress(BlockingIOError):
+            if not self.stream.recv(4_096):
+                raise Wrong("saw the end of its peer's stream")
 
     def told(self):
         """Describes the bytes received, for the message of a failed test."""

@@ -8,7 +8,7 @@ import re
 import time
 
 from acts import Bot, Comes, Hears, HearsEnd, Says, Server, ServerLeaves, ServerReturns, shut
-from control import SECONDS, Match, rest, settled
+from control import SECONDS, STOPPING, Match, rest, settled
 from frames import FM, IM
 from gateway import REFUSES, joins, reached_again
 from held import Wrong, same
@@ -118,7 +118,7 @@ def status_says_since_when_the_server_is_away(program):
         server = "{}:{}".format(*match.listener.getsockname())
         for stream in match.bots:
             stream.close()
-        same(match.asks(b"stop\n"), b"", "answer to the stop")
+        same(match.asks(b"stop\n"), STOPPING, "answer to the stop")
         status, told = match.ended()
     lines = told.splitlines(keepends=True)
     same((status, len(lines), lines[0]), (0, 2, REFUSES.format(server=server)), "the run, and its first line")

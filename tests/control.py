@@ -16,7 +16,9 @@ import subprocess
 import tempfile
 import time
 
-from frames import FM, HUH_OF_GOF, IAM_ENG, IM, IM_FM, ITS_PRN, NAMED, OBS, RM, UNCLOSED, WILD_NAME, YES
+from frames import (
+    FM, HLO_AUS, HUH_OF_GOF, IAM_AUS, IAM_ENG, IM, IM_FM, ITS_PRN, NAMED, OBS, RM, UNCLOSED, WILD_NAME, YES, YES_AUS,
+)
 from held import NotPlayed, Wrong, same, take_signals
 from runs import TOP
 from stage import HOST, free_port
@@ -30,9 +32,12 @@ SESSIONS = 20
 # The number of hostile clients at the control socket.
 HOSTILE = 300
 
+# The answer of a run that carries out a stop, before the end of the stream.
+STOPPING = b"stopping\n"
+
 COLUMNS = """\
                    from bot   from server     bytes for  bot
-   no phase   relay PRN HUH relay PRN HUH    bot server idle bot and its name"""
+   no phase   relay PRN HUH relay PRN HUH    bot server idle bot, its name and its power"""
 
 
 class Match:
@@ -237,7 +242,7 @@ def status_is_a_document(program):
         nothing = {"bot": 0, "server": 0}
         same(found["counts"]["frames"], {"faults": 0, "relayed": {"bot": 2, "server": 2}, "prn": {"bot": 1, "server": 0},
                                          "huh": nothing}, "the frames of all sessions")
-        same((len(found["counts"]["ends"]), sum(found["counts"]["ends"].values())), (18, 0), "the ends of all sessions")
+        same((len(found["counts"]["ends"]), sum(found["counts"]["ends"].values())), (20, 0), "the ends of all sessions")
         first, second = found["sessions"]
         same((first["session"], first["bot"], first["phase"], first["level"]), (1, address(bot), "open", 0), "session 1")
         same([first[name] for name in ("relayed", "prn", "huh", "faults")],
@@ -310,6 +315,46 @@ def status_has_names(program):
         labels = [',name="' + name.replace("\\", r"\\").replace('"', r'\"') + '"' if name else "" for name in names]
         same(levels, [f'daide_gate_session_level{{session="{number}",bot="{bot}",phase="open"{label}}} 0'
                       for number, (bot, label) in enumerate(zip(bots, labels), 1)], "the metric")
+
+
+def power_is_shown(program):
+    """Two bots play AUS: one by an HLO, one by the YES to its IAM. The status in each form, the line of the end, and the
+    table of the two records have that."""
+    said = (NAMED, HLO_AUS, 20, "NME 'Albert'"), (IAM_AUS, YES_AUS, 0, "IAM AUS")
+    names = [name for *_, name in said]
+    with Match(program, "max_sessions = 2\nsessions = 2", ("--verbose", "--record", "records")) as match:
+        ends = [match.opens() for _ in said]
+        same([row["power"] for row in json.loads(match.status("json"))["sessions"]], [None, None], "before the server says one")
+        for (bot, server), (frame, answer, _, _) in zip(ends, said):
+            bot.sendall(frame)
+            same(received(server, len(frame)), frame, "received by the server")
+            server.sendall(answer)
+            same(received(bot, len(answer)), answer, "received by the bot")
+        bots = [address(bot) for bot, _ in ends]
+        cells = [f"{bot} {name} AUS" for bot, name in zip(bots, names)]
+        same([line[61:] for line in match.status().splitlines()[5:]], cells, "the table")
+        rows = json.loads(match.status("json"))["sessions"]
+        same([(row["name"], row["power"]) for row in rows], [(name, "AUS") for name in names], "the document")
+        levels = [line for line in match.status("prometheus").splitlines() if line.startswith("daide_gate_session_level{")]
+        same(levels, [f'daide_gate_session_level{{session="{number}",bot="{bot}",phase="open",name="{name}",power="AUS"}} {level}'
+                      for number, (bot, (_, _, level, name)) in enumerate(zip(bots, said), 1)], "the metric")
+        for bot, server in ends:
+            bot.sendall(FM)
+            same(received(server, len(FM)), FM, "received by the server")
+            server.close()
+            bot.close()
+        status, told = match.ended()
+        counts = "FM of bot; bot 3 relayed 0 prn 0 huh; server 2 relayed 0 prn 0 huh; 0 faults"
+        lines = [re.sub(r"after [0-9.]+ s", "after", line) for line in told.splitlines() if " ended " in line]
+        same((status, sorted(lines)), (0, [f"daide-gate: session {number} ended after: {counts}; level {level}; {name}; power AUS"
+                                           for number, (_, _, level, name) in enumerate(said, 1)]), "the ends")
+        records = [str(match.room / "records" / f"session-00000{number}.log") for number in (1, 2)]
+        printed = match.command("check", *records)[0]
+        same(printed.splitlines()[-3:], [
+            "session  name          power  relayed  PRN  HUH  faults  first refusal  end",
+            "1        NME 'Albert'  AUS    5        0    0    0       -              FM of bot",
+            "2        -             AUS    5        0    0    0       -              FM of bot",
+        ], "the table of the records")
 
 
 def fills(stream):
@@ -440,12 +485,71 @@ def stop_now_ends_a_session_at_each_place(program):
         settled(match, "table", lambda text: text.count(" open 0 ") == 1)
         with match.client() as client:
             client.sendall(b"stop now\n")
+            same(received(client, len(STOPPING)), STOPPING, "answer to the stop")
             for sides, texts in (((silent, untold), (FM, b"")), ((waiting, told), (FM, FM)), ((bot, server), (FM, FM))):
                 same(tuple(map(rest, sides)), texts, "received by both sides")
                 for side in sides:
                     side.close()
-            same(rest(client), b"", "answer to the stop")
+            same(rest(client), b"", "rest of the answer")
         same(match.ended(), (0, ""), "the run")
+
+
+def stop_ends_one_session(program):
+    """Both sides of the session receive an FM, its line has the cause, and the stop has status 0. The other session goes on,
+    and the next bot has the place that is free again."""
+    with Match(program, "max_sessions = 2\nsessions = 9", ["--verbose"]) as match:
+        bot, server = match.opens()
+        other, its_server = match.opens()
+        stopping = subprocess.Popen([*match.program, "stop", "--session", "2", str(match.settings)], stdout=subprocess.PIPE,
+                                    stderr=subprocess.PIPE)
+        same((rest(other), rest(its_server)), (FM, FM), "received by both sides")
+        other.close()
+        its_server.close()
+        same((*stopping.communicate(timeout=SECONDS), stopping.returncode), (b"", b"", 0), "the stop of session 2")
+        speaks(bot, server)
+        match.opens()
+        rows = json.loads(match.status("json"))["sessions"]
+        same([row["session"] for row in rows], [1, 3], "the sessions")
+        match.process.terminate()
+        told = match.ended()[1]
+        same(re.findall(r"session (\d+) ended after [0-9.]+ s: ([^;]*)", told), [("2", "stopped by the operator")], "the lines")
+
+
+def stop_of_no_session_says_so(program):
+    """A session that is over, one that did not begin, and the greatest number. The run goes on, with its session."""
+    with Match(program, "max_sessions = 2\nsessions = 9") as match:
+        bot, server = match.opens()
+        bot.sendall(FM)
+        same((rest(bot), rest(server)), (b"", FM), "received by both sides")
+        bot.close()
+        server.close()
+        bot, server = match.opens()
+        for number in (1, 3, 4_294_967_295):
+            same(match.asks(f"stop session {number}\n".encode()), f"no session {number}\n".encode(), "answer")
+            told = f"daide-gate: {match.control}: the run has no session {number}\n"
+            same(match.command("stop", "--session", str(number), str(match.settings))[:3], ("", told, 1), "the stop")
+        for line in (b"stop session 0\n", b"stop session 02\n", b"stop session +2\n", b"stop session 4294967296\n",
+                     b"stop session\n", b"stop session 2 \n", b"stop session  2\n"):
+            same(match.asks(line), b"unknown request\n", f"answer to {line!r}")
+        speaks(bot, server)
+
+
+def stop_of_a_session_beside_a_hung_bot(program):
+    """A bot that reads nothing keeps its session, so the stop of it goes on after its timeout, and a second one is over once
+    the bot closes. The run goes on."""
+    with Match(program, "max_sessions = 2\nsessions = 9\nstall_seconds = 0") as match:
+        bot, server = match.opens()
+        fills(server)
+        settled(match, "json", lambda text: json.loads(text)["sessions"][0]["queued"]["bot"])
+        told = f"daide-gate: {match.control}: still running\n"
+        same(match.command("stop", "--session", "1", "--timeout", "1", str(match.settings))[:3], ("", told, 1), "the stop")
+        with match.client() as client:
+            client.sendall(b"stop session 1\n")
+            same(received(client, len(STOPPING)), STOPPING, "answer to the stop")
+            bot.close()
+            server.close()
+            same(rest(client), b"", "rest of the answer")
+        speaks(*match.opens())
 
 
 def control_refuses_what_is_no_request(program):
@@ -559,6 +663,34 @@ def stale_socket_is_replaced(program):
         same(pathlib.Path(path).read_text(encoding="utf-8"), "kept\n", "the file")
 
 
+def one_of_several_runs_begins(program):
+    """Three runs begin at once with one control path, at which an earlier run left its socket, eight times. One of them
+    listens, and its socket answers; the others cannot listen."""
+    for _ in range(8):
+        with tempfile.TemporaryDirectory() as room:
+            path = f"{room}/control"
+            with socket.socket(socket.AF_UNIX) as left:
+                left.bind(path)
+            runs, files = [], [pathlib.Path(room) / f"{number}.toml" for number in range(3)]
+            try:
+                for file in files:
+                    text = f"listen = '{HOST}:{free_port()}'\nserver = '{HOST}:1'\ncontrol = '{path}'\nendless = true\n"
+                    file.write_text(text, encoding="utf-8")
+                    runs.append(subprocess.Popen([str(program), "run", str(file)], stdout=subprocess.PIPE, stderr=subprocess.PIPE))
+                printed = [run.stdout.readline() for run in runs]
+                same(sorted(printed), [b"", b"", b"listening\n"], "printed by the three runs")
+                done = subprocess.run([str(program), "stop", str(files[0])], capture_output=True, check=False, timeout=SECONDS)
+                same((done.stdout, done.stderr, done.returncode), (b"", b"", 0), "the stop of the one that listens")
+                ends = sorted((run.wait(SECONDS), run.stderr.read()) for run in runs)
+                same(ends, [(0, b"")] + [(1, b"daide-gate: cannot listen\n")] * 2, "the ends of the three runs")
+                same(os.path.exists(path), False, "the file is there after the runs")
+            finally:
+                for run in runs:
+                    if run.poll() is None:
+                        run.kill()
+                    run.communicate()
+
+
 # What a path of a control socket must be.
 PATH = "it must be a string of 1 to 100 bytes"
 
@@ -575,6 +707,7 @@ def requests_without_a_run_say_why(program):
             ("control = 1", "stop", f"line 3: control = 1 is of the wrong type; {PATH}", 1),
             ("control = ''", "status", f"line 3: control = '' is out of range; {PATH}", 1),
             (f"control = '{path}'", "status --format xml", "bad format; it must be table, json or prometheus", 2),
+            (f"control = '{path}'", "stop --session 12", f"{path}: nobody listens", 1),
             (f"control = '{path}'", "stop --timeout 0", "bad timeout; it must be 1 to 86400 seconds", 2),
             (f"control = '{path}'", "stop --timeout 86401", "bad timeout; it must be 1 to 86400 seconds", 2),
         )
@@ -599,8 +732,20 @@ def answers_of_others_are_told(program):
             ("status", longest, longest.decode(), None, 0),
             ("status", longest + b"x", "", "answer is too long", 1),
             ("stop", unknown, "", "the run does not know the request", 1),
-            ("stop", b"", "", None, 0),
+            ("stop", STOPPING, "", None, 0),
+            ("stop --now", STOPPING, "", None, 0),
+            ("stop --session 4294967295", STOPPING, "", None, 0),
+            ("stop", b"", "", "no answer", 1),
+            ("stop --now", b"stopping", "", "the run does not know the request", 1),
+            ("stop", STOPPING + b"x", "", "the run does not know the request", 1),
+            ("stop", b"no session 12\n", "", "the run does not know the request", 1),
+            ("stop --session 12", b"no session 12\n", "", "the run has no session 12", 1),
+            ("stop --session 12", b"too many wait\n", "", "too many wait for an end: session 12 is not stopped", 1),
+            ("stop", b"too many wait\n", "", "too many wait for the end: the run stops, but its end is not awaited", 1),
+            ("stop --now", b"too many wait\n", "", "too many wait for the end: the run stops, but its end is not awaited", 1),
         )
+        sent = {"status": b"status table\n", "status --format json": b"status json\n", "stop": b"stop\n",
+                "stop --now": b"stop now\n"}
         with socket.socket(socket.AF_UNIX) as listener:
             listener.bind(path)
             listener.listen()
@@ -611,8 +756,8 @@ def answers_of_others_are_told(program):
                 stream, _ = listener.accept()
                 with stream:
                     stream.settimeout(SECONDS)
-                    while not stream.recv(64).endswith(b"\n"):
-                        pass
+                    line = sent.get(words, f"stop session {words.split()[-1]}\n".encode())
+                    same(received(stream, len(line)), line, "the request")
                     stream.sendall(answer)
                 told = "" if fault is None else f"daide-gate: {path}: {fault}\n"
                 same((*asking.communicate(timeout=SECONDS), asking.returncode), (printed, told, status),
@@ -646,8 +791,8 @@ def status_of_several_runs(program):
 
 
 def script_ends_a_session(program, send, number, change=None):
-    """Checks that the script at the top ends a session with FM at this signal, and has the run's status. Before that the
-    file of the settings is changed."""
+    """Checks that the script at the top ends a session with FM at this signal, and has the run's status. Before that the run
+    or the file of its settings is changed."""
     with tempfile.TemporaryDirectory() as room:
         script = pathlib.Path(room) / "daide-gate"
         shutil.copy(TOP / "daide-gate", script)
@@ -660,7 +805,7 @@ def script_ends_a_session(program, send, number, change=None):
         with Match([str(script)], "sessions = 4\nendless = true") as match:
             bot, server = match.opens()
             if change:
-                change(match.settings)
+                change(match)
             send(match.process.pid, number)
             same((rest(bot), rest(server)), (FM, FM), "received by both sides")
             bot.close()
@@ -676,11 +821,28 @@ def script_stops_a_run_by_the_protocol(program):
 
 def script_stops_a_run_whose_settings_changed(program):
     """An organiser prepares the next run in the same file, or removes it."""
-    def renames(settings):
-        settings.write_text(settings.read_text(encoding="utf-8").replace("control = '", "control = '/nowhere"), encoding="utf-8")
+    def renames(match):
+        text = match.settings.read_text(encoding="utf-8").replace("control = '", "control = '/nowhere")
+        match.settings.write_text(text, encoding="utf-8")
 
-    for change in (renames, os.remove):
+    for change in (renames, lambda match: match.settings.unlink()):
         script_ends_a_session(program, os.kill, signal.SIGTERM, change)
+
+
+def script_beside_four_stops_kills_no_run(program):
+    """Four clients wait for the end of the run, so the script's own stop can't wait. Its session gets an FM all the same."""
+    clients = []
+
+    def stops(match):
+        for _ in range(4):
+            clients.append(match.client())
+            clients[-1].sendall(b"stop\n")
+            same(received(clients[-1], len(STOPPING)), STOPPING, "answer to a stop")
+
+    script_ends_a_session(program, os.kill, signal.SIGTERM, stops)
+    for client in clients:
+        same(rest(client), b"", "rest of the answer")
+        client.close()
 
 
 TESTS = [
@@ -689,12 +851,16 @@ TESTS = [
     status_is_a_document,
     status_has_metrics,
     status_has_names,
+    power_is_shown,
     status_shows_what_waits,
     status_shows_twenty_sessions,
     stop_waits_for_the_sessions,
     stop_gives_up_after_its_timeout,
     stop_now_ends_each_session,
     stop_now_ends_a_session_at_each_place,
+    stop_ends_one_session,
+    stop_of_no_session_says_so,
+    stop_of_a_session_beside_a_hung_bot,
     control_refuses_what_is_no_request,
     hostile_clients_delay_no_session,
     silent_client_is_closed,
@@ -702,9 +868,11 @@ TESTS = [
     socket_of_another_run_is_kept,
     control_refuses_another_user,
     stale_socket_is_replaced,
+    one_of_several_runs_begins,
     requests_without_a_run_say_why,
     answers_of_others_are_told,
     status_of_several_runs,
     script_stops_a_run_by_the_protocol,
     script_stops_a_run_whose_settings_changed,
+    script_beside_four_stops_kills_no_run,
 ]

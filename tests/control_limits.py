@@ -15,7 +15,7 @@ import time
 
 from acts import fill_queue, leave_descriptors
 from addresses import settings_of
-from control import SECONDS, Match, address, fills, received, rest, settled
+from control import SECONDS, STOPPING, Match, address, fills, received, rest, settled, speaks
 from frames import FM, IM
 from held import NotPlayed, Wrong, same, same_but_counts
 from runs import NOBODY
@@ -49,7 +49,7 @@ def socket_of_another_user_is_not_replaced(program):
 def endless_run_removes_its_socket(program):
     """A run that is stopped leaves no file of its control socket."""
     with Match(program, "endless = true") as match:
-        same(match.asks(b"stop\n"), b"", "answer to the stop")
+        same(match.asks(b"stop\n"), STOPPING, "answer to the stop")
         same((match.ended(), os.path.exists(match.control)), ((0, ""), False), "the run, and whether the socket is there")
 
 
@@ -86,7 +86,7 @@ def status_beside_a_hung_bot_after_stop_now(program):
             same([row["bot"] for row in found["sessions"]], [address(bot)], "its sessions")
             bot.close()
             server.close()
-            same(rest(client), b"", "answer to the stop")
+            same(rest(client), STOPPING, "answer to the stop")
         same(match.ended(), (0, ""), "the run")
 
 
@@ -116,7 +116,7 @@ def stop_now_beside_a_connect_blames_no_server(program):
             bots = [address(stream) for stream in (hung, bot)]
             hung.close()
             server.close()
-            same(rest(client), b"", "answer to the stop")
+            same(rest(client), STOPPING, "answer to the stop")
         status, told = match.ended()
         beginning = BEGINNING.format(match.port, address(match.listener))
     lines = [
@@ -164,7 +164,7 @@ def operator_is_served_without_descriptors(program):
                 first.sendall(b"stop\n")
                 settled(match, "table", lambda text: "; stopping\n" in text)
                 same(match.command("stop", "--now", str(match.settings))[:3], ("", "", 0), "the stop of all sessions")
-                same(rest(first), b"", "answer to the first stop")
+                same(rest(first), STOPPING, "answer to the first stop")
             for ends_of_one in (*ends, (bot, server)):
                 same(tuple(map(rest, ends_of_one)), (FM, FM), "received by both sides")
             status, told = match.ended()
@@ -173,16 +173,66 @@ def operator_is_served_without_descriptors(program):
 
 
 def suspended_run_is_waited_for_five_seconds(program):
-    """A run that is stopped by a signal answers nothing. A status is given up after its time, and a stop after its
-    timeout."""
+    """A run that is stopped by a signal answers nothing. A status and a stop are given up after five seconds, and a stop
+    after its timeout, if that is shorter. Once the run goes on, it does not stop: the clients of the stops are gone."""
     with Match(program, "endless = true") as match:
+        bot, server = match.opens()
         match.process.send_signal(signal.SIGSTOP)
-        printed, told, status, seconds = match.command("status", str(match.settings))
-        same((printed, told, status), ("", f"daide-gate: {match.control}: no answer\n", 1), "the status")
-        if seconds < SILENCE:
-            raise Wrong(f"the status took {seconds:.1f} s")
-        stopped = match.command("stop", "--timeout", "1", str(match.settings))
-        same(stopped[:3], ("", f"daide-gate: {match.control}: still running\n", 1), "the stop")
+        wanted = ("", f"daide-gate: {match.control}: no answer\n", 1)
+        for words, least, most in ((["status"], SILENCE, SECONDS), (["stop", "--now"], SILENCE, SECONDS),
+                                   (["stop", "--session", "1"], SILENCE, SECONDS), (["stop", "--timeout", "1"], 1, SILENCE)):
+            *found, seconds = match.command(*words, str(match.settings))
+            same(tuple(found), wanted, f"{words}")
+            if not least <= seconds < most:
+                raise Wrong(f"{words} took {seconds:.1f} s")
+        match.process.send_signal(signal.SIGCONT)
+        speaks(bot, server)
+        same(json.loads(match.status("json"))["stopping"], False, "whether the run stops")
+
+
+def fifth_stop_is_told_that_many_wait(program):
+    """Four clients wait for the end of the run. A status is served beside them, and a fifth stop of a session is told so, and
+    not carried out. A fifth `stop` is told so. `stop now` is carried out, and waits beside them."""
+    with Match(program, "endless = true") as match:
+        bot, server = match.opens()
+        waiting = [match.client() for _ in range(4)]
+        for client in waiting:
+            client.sendall(b"stop\n")
+            same(received(client, len(STOPPING)), STOPPING, "answer to a stop")
+        same(json.loads(match.status("json"))["stopping"], True, "whether the run stops")
+        same(match.asks(b"stop session 1\n"), b"too many wait\n", "answer to the stop of a session")
+        told = f"daide-gate: {match.control}: too many wait for an end: session 1 is not stopped\n"
+        same(match.command("stop", "--session", "1", str(match.settings))[:3], ("", told, 1), "the stop of a session")
+        speaks(bot, server)
+        told = f"daide-gate: {match.control}: too many wait for the end: the run stops, but its end is not awaited\n"
+        same(match.command("stop", str(match.settings))[:3], ("", told, 1), "a fifth stop of the run")
+        waiting.append(match.client())
+        waiting[-1].sendall(b"stop now\n")
+        same(received(waiting[-1], len(STOPPING)), STOPPING, "answer to the stop of all sessions")
+        same((rest(bot), rest(server)), (FM, FM), "received by both sides")
+        bot.close()
+        server.close()
+        for client in waiting:
+            same(rest(client), b"", "rest of the answer")
+            client.close()
+        same(match.ended()[0], 0, "status of the run")
+
+
+def stop_of_a_client_that_left_is_ignored(program):
+    """A client that closed, or shut down writing, before the run read its request: each stop is ignored."""
+    with Match(program, "endless = true") as match:
+        bot, server = match.opens()
+        match.process.send_signal(signal.SIGSTOP)
+        clients = []
+        for line, is_closed in ((b"stop now\n", True), (b"stop session 1\n", False)):
+            client = match.client()
+            client.sendall(line)
+            client.close() if is_closed else client.shutdown(socket.SHUT_WR)
+            clients.append(client)
+        match.process.send_signal(signal.SIGCONT)
+        speaks(bot, server)
+        same(json.loads(match.status("json"))["stopping"], False, "whether the run stops")
+        clients[1].close()
 
 
 def fills_queue(match):
@@ -254,6 +304,8 @@ TESTS = [
     stop_now_beside_a_connect_blames_no_server,
     operator_is_served_without_descriptors,
     suspended_run_is_waited_for_five_seconds,
+    fifth_stop_is_told_that_many_wait,
+    stop_of_a_client_that_left_is_ignored,
     full_queue_is_waited_for_five_seconds,
     queue_with_room_again_is_used,
     status_shows_150_sessions,

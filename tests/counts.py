@@ -10,7 +10,7 @@ import tempfile
 import time
 
 from control import SECONDS, Match, address, received, rest, settled, speaks
-from frames import EM_01, FM, IM, ITS_ERR, OBS, OBS_GOF
+from frames import EM_01, FM, IM, ITS_ERR, ITS_PRN, OBS, OBS_GOF, UNCLOSED
 from growths import compiled
 from held import same, same_but_counts
 from records import ENDINGS
@@ -20,7 +20,8 @@ from stage import BEGINNING, HOST, without_reached
 CAUSES = (
     "bot ended", "server ended", "bot lost", "server lost", "FM of bot", "FM of server", "EM of bot", "EM of server",
     "fault of bot", "fault of server", "no IM in time", "stopped by the operator", "bot silent", "server silent",
-    "bot took nothing", "server took nothing", "turns spent", "no server",
+    "bot took nothing", "server took nothing",
+    "too many refusals of bot", "too many refusals of server", "turns spent", "no server",
 )
 
 
@@ -157,10 +158,54 @@ def bot_that_is_not_followed_is_counted_as_dropped(program):
         same_but_counts(told, beginning + TELLS_OF_A_DROPPED_BOT.format(*bots), "told")
 
 
+# The lines of a run that stopped a session for the bot's third refused message.
+TELLS_OF_REFUSALS = """\
+daide-gate: session 1 began: bot at {}
+daide-gate: session 1 ended after *.* s: too many refusals of bot; bot 3 relayed 2 prn 1 huh; server 2 relayed 0 prn 0 huh; 0 faults; level 0
+"""
+
+
+def bot_is_stopped_at_its_last_refusal(program):
+    """The third refused message of a bot, with PRN or with HUH, ends its session by the protocol, and no earlier one. What is
+    relayed between them does not count."""
+    with Match(program, "endless = true\nmax_refused = 3", ["--verbose"]) as match:
+        bot, server = match.opens()
+        speaks(bot, server)
+        bot.sendall(OBS_GOF)
+        same(received(bot, len(ITS_ERR)), ITS_ERR, "received by the bot")
+        bot.sendall(OBS)
+        same(received(server, len(OBS)), OBS, "received by the server")
+        same_counts(match, {}, frames((3, 1, 1), (2, 0, 0), 0))
+        bot.sendall(UNCLOSED)
+        same((rest(bot), rest(server)), (ITS_PRN + FM, FM), "received by both sides")
+        settled(match, "json", lambda text: json.loads(text)["served"] == 1)
+        same_counts(match, {"too many refusals of bot": 1}, frames((3, 2, 1), (2, 0, 0), 0))
+        beginning = BEGINNING.format(match.port, address(match.listener))
+        match.process.kill()
+        told = without_reached(match.ended()[1])
+        same_but_counts(told, beginning + TELLS_OF_REFUSALS.format(address(bot)), "told")
+
+
+def each_session_has_its_own_refusals(program):
+    """A server is stopped at its first refused message, and the bot of the next session at its own first one."""
+    with Match(program, "endless = true\nmax_refused = 1") as match:
+        bot, server = match.opens()
+        server.sendall(UNCLOSED)
+        same((rest(bot), rest(server)), (FM, ITS_PRN + FM), "received by both sides")
+        bot, server = match.opens()
+        bot.sendall(UNCLOSED)
+        same((rest(bot), rest(server)), (ITS_PRN + FM, FM), "received by both sides")
+        settled(match, "json", lambda text: json.loads(text)["served"] == 2)
+        ends = {"too many refusals of bot": 1, "too many refusals of server": 1}
+        same_counts(match, ends, frames((2, 1, 0), (2, 1, 0), 0))
+
+
 TESTS = [
     counts_outlive_their_sessions,
     silent_server_is_counted,
     session_without_turns_is_counted,
+    bot_is_stopped_at_its_last_refusal,
+    each_session_has_its_own_refusals,
     declined_bots_are_counted_alone,
     bot_that_is_not_followed_is_counted_as_dropped,
 ]

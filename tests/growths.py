@@ -35,6 +35,7 @@ stall_seconds = 9
 endless = false
 allow = ["127.0.0.0/8", "::1"]
 max_per_address = 10
+max_refused = 11
 control = "c"
 words = [
     { name = "XYZ", code = 0x4A40, slot = "press", level = 20, operand = "power" },
@@ -47,7 +48,7 @@ SHOWN = b"DM 20\nSND ( FRA ) ( XYZ ( ENG ) )\nrelay\n"
 
 # The fault of two words with one code.
 SAME_CODE = (
-    b"daide-gate: line 18: words[1].code = 0x4A40 is out of range; it must be an integer from 0x4A00 to 0x4AFF, no "
+    b"daide-gate: line 19: words[1].code = 0x4A40 is out of range; it must be an integer from 0x4A00 to 0x4AFF, no "
     b"token of the protocol's or of an earlier word, and none of 0x4A0D, 0x4A12 and 0x4A1B\n"
 )
 
@@ -59,16 +60,16 @@ RUNS = [
         SETTINGS, (SHOWN, b"", 0),
     ),
     (["run", "settings"], SETTINGS, (b"", b"daide-gate: cannot listen\n", 1)),
-    (["run", "settings"], SETTINGS + "depth = 5\n", (b"", b'daide-gate: line 20: unknown key "depth"\n', 1)),
+    (["run", "settings"], SETTINGS + "depth = 5\n", (b"", b'daide-gate: line 21: unknown key "depth"\n', 1)),
     (
         ["settings", "settings"], SETTINGS + "depth = 5\n",
-        (b'line 20: unknown key "depth"\n', b"", 1),
+        (b'line 21: unknown key "depth"\n', b"", 1),
     ),
     (["status", "settings"], SETTINGS, (b"", b"daide-gate: c: nobody listens\n", 1)),
     (["stop", "--now", "settings"], SETTINGS, (b"", b"daide-gate: c: nobody listens\n", 1)),
     (
         ["run", "settings"], SETTINGS + "depth\n",
-        (b"", b"daide-gate: line 20: settings are not TOML: key with no value, expected `=`\n", 1),
+        (b"", b"daide-gate: line 21: settings are not TOML: key with no value, expected `=`\n", 1),
     ),
     (["run", "settings"], SETTINGS.replace("0x4A41", "0x4A40"), (b"", SAME_CODE, 1)),
 ]

@@ -34,7 +34,7 @@ TIMED = re.compile(rf"# {TIME}")
 # The least number of seconds between two times of a record.
 STEP = 0.01
 
-COUNTS = r"bot (\d+) relayed (\d+) prn (\d+) huh; server (\d+) relayed (\d+) prn (\d+) huh; (\d+) faults; level \d+(?:; (?:NME|IAM) .*)?"
+COUNTS = r"bot (\d+) relayed (\d+) prn (\d+) huh; server (\d+) relayed (\d+) prn (\d+) huh; (\d+) faults; level \d+(?:; (?:NME|IAM) .*)?(?:; power \S+)?"
 ENDED = re.compile(rf"^daide-gate: session (\d+) ended after [\d.]+ s: .*; {COUNTS}$", re.MULTILINE)
 
 

@@ -65,7 +65,7 @@ FILES = {
 # The keys of settings, and a value of a type that none of them has.
 KEYS = (
     "listen", "server", "top_level", "max_body", "max_depth", "im_seconds", "max_sessions", "sessions", "turns",
-    "idle_seconds", "words", "stall_seconds", "endless", "allow", "max_per_address", "control",
+    "idle_seconds", "words", "stall_seconds", "endless", "allow", "max_per_address", "max_refused", "control",
 )
 DATE = "1979-05-27T07:32:00Z"
 

@@ -168,7 +168,7 @@ class Stage:
         self.over = time.monotonic() + SECONDS
         self.awaited, self.moment, self.act_began = {}, None, 0.0
         self.longest, self.may_print = 0.0, True
-        self.work_before, self.sent_before, self.sent_last = None, None, 0.0
+        self.work_before, self.sent_before, self.sent_last, self.next_sip = None, None, 0.0, 0.0
 
     def peer(self, who):
         """Returns the end with this number."""

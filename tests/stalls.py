@@ -1,7 +1,7 @@
 """Scenes of peers that do not read the bytes queued for them."""
 
-from acts import Bot, Ends, Goes, Hears, HearsEnd, Leave, Passes, Pours, Rests, Says, Server
-from frames import FM, LONGER_NAME, MISNAMED
+from acts import Bot, Ends, Goes, Hears, HearsEnd, Leave, Narrows, Passes, Pours, Rests, Says, Server, Sips
+from frames import FM, LONG_MAP, LONGER_NAME, MISNAMED
 from gateway import joins, opens
 from stage import Scene
 
@@ -46,9 +46,29 @@ SERVER_STOPS_READING = [
     Leave(),
 ]
 
+# A bot reads steadily but slowly what its server sends without pause. Within the stall timeout it reads less than a third
+# of what the system holds for it, so its socket is not reported as writable. The session goes on until the bot ends it.
+READS_SLOWLY = [
+    *joins(),
+    *opens(0),
+    Narrows(Bot(0)),
+    Pours(Server(0), LONG_MAP, MORE_THAN_FITS),
+    Sips(Bot(0), 5_000),
+    Says(Bot(0), FM),
+    Hears(Server(0), FM),
+    HearsEnd(Server(0)),
+    Goes(Server(0)),
+    Leave(),
+]
+
 BOT_STALLED = """\
 daide-gate: session 1 began: bot at 127.0.0.1:{0}
 daide-gate: session 1 ended after *.* s: bot took nothing for 1 s; bot 1 relayed 0 prn * huh; server 1 relayed 0 prn 0 huh; 0 faults; level 0
+"""
+
+BOT_LEFT = """\
+daide-gate: session 1 began: bot at 127.0.0.1:{0}
+daide-gate: session 1 ended after *.* s: FM of bot; bot * relayed 0 prn 0 huh; server * relayed 0 prn 0 huh; 0 faults; level 0
 """
 
 SERVER_STALLED = """\
@@ -62,6 +82,7 @@ SCENES = [
         "bot_that_reads_nothing_is_given_up", STOPS_READING_ALONE, "stall_seconds = 1", told=BOT_STALLED,
         verbose=True,
     ),
+    Scene("bot_that_reads_slowly_is_kept", READS_SLOWLY, "stall_seconds = 1", told=BOT_LEFT, verbose=True),
     Scene(
         "server_that_reads_nothing_is_given_up", SERVER_STOPS_READING, "stall_seconds = 1", told=SERVER_STALLED,
         verbose=True,

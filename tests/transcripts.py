@@ -15,6 +15,7 @@ FM = "0300" "0000"
 EM = "0400" "0002" "0009"
 NME = "0200" "0010" "480C" "4000" "4B41" "4B6C" "4001" "4000" "4B31" "4001"  # NME ( 'Al' ) ( '1' )
 IAM = "0200" "000E" "4807" "4000" "4102" "4001" "4000" "0005" "4001"  # IAM ( FRA ) ( 5 )
+GRANTED = "0200" "0014" "481C" "4000" "4807" "4000" "4102" "4001" "4000" "0005" "4001" "4001"  # YES ( IAM ( FRA ) ( 5 ) )
 HLO = "0200" "0012" "4804" "4000" "4101" "4001" "4000" "0007" "4001" "4000" "4001"  # HLO ( ENG ) ( 7 ) ( )
 GOF = "0200" "0002" "4803"
 UNCLOSED = "0200" "0004" "4803" "4000"  # GOF (
@@ -41,7 +42,8 @@ FIRST = record(
     f"1 bot {UNCLOSED}", f"1 bot {TWO}", at("09.000"), f"1 server {FM}", number=7,
 )
 SECOND = record(
-    f"1 bot {IM}", at("00.900"), f"1 server {RM}", at("02.500"), f"1 bot {IAM}", at("04.000"), f"1 bot {ODD}",
+    f"1 bot {IM}", at("00.900"), f"1 server {RM}", at("02.500"), f"1 bot {IAM}", at("02.700"), f"1 server {GRANTED}",
+    at("04.000"), f"1 bot {ODD}",
     number=8, began="00.500",
 )
 TOLD = [
@@ -50,7 +52,8 @@ TOLD = [
     f"{DAY}00.900Z\t8\t-\t-\tserver\tRM 0",
     f"{DAY}01.000Z\t7\t-\t-\tserver\tRM 0",
     f"{DAY}02.500Z\t7\tNME 'Al'\t-\tbot\tNME ( 'Al' ) ( '1' )",
-    f"{DAY}02.500Z\t8\t-\tFRA\tbot\tIAM ( FRA ) ( 5 )",
+    f"{DAY}02.500Z\t8\t-\t-\tbot\tIAM ( FRA ) ( 5 )",
+    f"{DAY}02.700Z\t8\t-\tFRA\tserver\tYES ( IAM ( FRA ) ( 5 ) )",
     f"{DAY}03.000Z\t7\tNME 'Al'\tENG\tserver\tHLO ( ENG ) ( 7 ) ( )",
     f"{DAY}03.000Z\t7\tNME 'Al'\tENG\tbot\tGOF (\tprn",
     f"{DAY}03.000Z\t7\tNME 'Al'\tENG\tbot\tOBS GOF\thuh 1",
@@ -117,7 +120,7 @@ def cut_and_bad_logs_are_told(program):
         lines, errors, status = told(folder, ["bad.log", "no-such.log", "a.log"])
         turned = [*TOLD[:4], TOLD[5], TOLD[4], *TOLD[6:]]
         same((lines, status), (turned, 1), "logs with a fault")
-        same(errors, ["daide-gate: bad.log: line 11 is not a log line", "daide-gate: bad.log: column 7: the number of digits is odd",
+        same(errors, ["daide-gate: bad.log: line 13 is not a log line", "daide-gate: bad.log: column 7: the number of digits is odd",
                       "daide-gate: no-such.log: input could not be read"], "their faults")
         same(folder.run(["transcript", "--format", "xml"])[1:],
              (b"daide-gate: bad format; it must be text or json\n", 2), "an unknown form")
@@ -165,7 +168,7 @@ def several_logs_end_with_a_table(program):
     table = aligned([
         NAMES,
         ["7", "NME 'Al'", "ENG", "5", "1", "1", "0", "line 11: bot prn", "FM of server"],
-        ["8", "-", "FRA", "3", "0", "0", "1", "-", "fault 09 of bot: wrong length 0003 at byte 2"],
+        ["8", "-", "FRA", "4", "0", "0", "1", "-", "fault 09 of bot: wrong length 0003 at byte 2"],
         ["-", "-", "-", "0", "0", "0", "0", "-", "FM of bot"],
         ["1", "-", "-", "3", "0", "0", "0", "-", "EM of server"],
         ["2", "-", "-", "2", "0", "1", "0", "line 8: bot huh 0", "stopped by the operator"],
@@ -182,7 +185,7 @@ def several_logs_end_with_a_table(program):
 def logs_with_a_fault_are_in_the_table(program):
     """A fault names its file, the sessions before it are in the table, and the other files are judged."""
     files = {"bad.log": SECOND + "1 bot 0\n", "n\x01ö.log": LEAVES, "head.log": "daide-log 1\n"}
-    rows = [NAMES, ["8", "-", "FRA", "3", "0", "0", "1", "-", "fault 09 of bot: wrong length 0003 at byte 2"],
+    rows = [NAMES, ["8", "-", "FRA", "4", "0", "0", "1", "-", "fault 09 of bot: wrong length 0003 at byte 2"],
             ["-", "-", "-", "0", "0", "0", "0", "-", "FM of bot"]]
     with Folder(program, files) as folder:
         report, _, status = folder.run(["check", "bad.log"])
@@ -191,7 +194,7 @@ def logs_with_a_fault_are_in_the_table(program):
         printed, errors, status = folder.run(["check", "bad.log", "no-such.log", "head.log", "n\x01ö.log"])
         wanted = ["# bad.log", *lines_of(report), "# no-such.log", "# head.log", "# n?ö.log", *leaves, *aligned(rows)]
         same((lines_of(printed), status), (wanted, 1), "logs with a fault")
-        faults = ["bad.log: line 11 is not a log line", "bad.log: column 7: the number of digits is odd",
+        faults = ["bad.log: line 13 is not a log line", "bad.log: column 7: the number of digits is odd",
                   "no-such.log: input could not be read", "head.log: line 2 is not a log line",
                   "head.log: column 1: the log ends before this line"]
         same(lines_of(errors), [f"daide-gate: {fault}" for fault in faults], "the faults")

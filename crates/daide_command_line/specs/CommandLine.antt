@@ -20,7 +20,7 @@ use Rattle.daide_grammar.specs.declared.level.Level.{Level}
 use Rattle.daide_grammar.specs.declared.level.Level.TheVariants.{L0, L10, L20, L30, L40, L50, L60}
 use Rattle.daide_command_line.specs.declared.arguments.Order.{Order}
 use Rattle.daide_command_line.specs.declared.arguments.Order.TheVariants.{Show, Check, Frame, Settings, Run, BadSide, BadLevel}
-use Rattle.daide_command_line.specs.declared.arguments.Order.TheVariants.{Status, Stop, BadFormat, BadTimeout, Transcript, BadMessageFormat}
+use Rattle.daide_command_line.specs.declared.arguments.Order.TheVariants.{Status, Stop, BadFormat, BadTimeout, BadSession, Transcript, BadMessageFormat}
 use Rattle.daide_command_line.specs.declared.arguments.ShowOrder.{ShowOrder}
 use Rattle.daide_command_line.specs.declared.arguments.CheckOrder.{CheckOrder}
 use Rattle.daide_command_line.specs.declared.arguments.TranscriptOrder.{TranscriptOrder}
@@ -29,6 +29,8 @@ use Rattle.daide_command_line.specs.declared.arguments.SettingsOrder.{SettingsOr
 use Rattle.daide_command_line.specs.declared.arguments.RunOrder.{RunOrder}
 use Rattle.daide_command_line.specs.declared.arguments.StatusOrder.{StatusOrder}
 use Rattle.daide_command_line.specs.declared.arguments.StopOrder.{StopOrder}
+use Rattle.daide_status.specs.declared.request.ControlRequest.{ControlRequest}
+use Rattle.daide_status.specs.declared.request.ControlRequest.TheVariants as requests
 use Rattle.daide_status.specs.declared.request.Format.{Format}
 use Rattle.daide_status.specs.declared.request.Format.TheVariants.{Table, Json, Prometheus}
 
@@ -89,7 +91,8 @@ status_app = with_rules (codes "status") (option_rule (codes "format") ∷ requi
 
 abbrev pub stop_app : App
 stop_app = with_rules (codes "stop")
-    (flag_rule (codes "now") ∷ option_rule (codes "timeout") ∷ word_rule (codes "SETTINGS") true ∷ [])
+    (flag_rule (codes "now") ∷ option_rule (codes "session") ∷ option_rule (codes "timeout")
+    ∷ word_rule (codes "SETTINGS") true ∷ [])
 
 -- the whole command line, if no argument begins as a negative number
 abbrev pub gate_app : App
@@ -139,12 +142,12 @@ json_named word =
     else if bytes_eq word (codes "json") then Some true
     else None
 
--- the seconds of a timeout: 1 to 86,400, in decimal digits as std reads them
-abbrev pub IsTimeout : Text → Option ℕ → Type 0
-IsTimeout word timeout =
+-- a number from 1 to a greatest one, in decimal digits as std reads them
+abbrev pub IsNumberTo : ℕ → Text → Option ℕ → Type 0
+IsNumberTo most word named =
     let digits = without_leading_plus word in
-    let seconds = digits_value 10 digits in
-    SomeIff timeout (IsNumeral 10 digits × (1 ≤ seconds) × (seconds ≤ 86400)) seconds
+    let number = digits_value 10 digits in
+    SomeIff named (IsNumeral 10 digits × (1 ≤ number) × (number ≤ most)) number
 
 -- a flag was given
 abbrev pub is_set : Text → List Row → Bool
@@ -199,20 +202,36 @@ IsStatusOrder None rows order = order ≡ BadFormat
 IsStatusOrder (Some format) rows order = (status : StatusOrder) × (order ≡ Status status) × (status.format ≡ format)
     × (option_map (λ paths. map (λ path. path.now) paths.now) status.settings ≡ all_of (codes "SETTINGS") rows)
 
--- the order of `stop`, with a timeout or without one
-abbrev pub IsStopWithin : Option ℕ → List Row → Order → Type 0
-IsStopWithin timeout rows order = (stop : StopOrder) × (order ≡ Stop stop) × (stop.timeout ≡ timeout)
+-- The request of `stop`, by the word of `--session` and by `--now`: of the run, of the run with its sessions, or of a session
+-- from 1 to 4,294,967,295. The two together request nothing.
+abbrev pub IsStopRequest : Option Text → Bool → Option ControlRequest → Type 0
+IsStopRequest None false request = request ≡ Some requests.Stop
+IsStopRequest None true request = request ≡ Some requests.StopNow
+IsStopRequest (Some word) false request =
+    (number : Option ℕ) × IsNumberTo 4294967295 word number × (request ≡ option_map requests.StopSession number)
+IsStopRequest (Some word) true request = request ≡ None
+
+-- the timeout of `stop`, by its word: 1 to 86,400 seconds; without a word there is none
+abbrev pub IsStopTimeout : Option Text → Option (Option ℕ) → Type 0
+IsStopTimeout None timeout = timeout ≡ Some None
+IsStopTimeout (Some word) timeout = (seconds : Option ℕ) × IsNumberTo 86400 word seconds × (timeout ≡ option_map Some seconds)
+
+-- the order of `stop` with this request, by its timeout
+abbrev pub IsStopWithin : ControlRequest → Option (Option ℕ) → List Row → Order → Type 0
+IsStopWithin request None rows order = order ≡ BadTimeout
+IsStopWithin request (Some timeout) rows order = (stop : StopOrder) × (order ≡ Stop stop)
+    × (stop.request ≡ request) × (stop.timeout ≡ timeout)
     × (stop.settings.now ≡ unwrap_or (first_of (codes "SETTINGS") rows) [])
-    × (stop.is_now ≡ is_set (codes "now") rows)
 
-abbrev pub IsStopIn : Option ℕ → List Row → Order → Type 0
-IsStopIn None rows order = order ≡ BadTimeout
-IsStopIn (Some seconds) rows order = IsStopWithin (Some seconds) rows order
+-- the order of `stop`, by its request; a bad session is refused before a bad timeout
+abbrev pub IsStopFor : Option ControlRequest → List Row → Order → Type 0
+IsStopFor None rows order = order ≡ BadSession
+IsStopFor (Some request) rows order = (timeout : Option (Option ℕ))
+    × IsStopTimeout (first_of (codes "timeout") rows) timeout × IsStopWithin request timeout rows order
 
--- the order of `stop`, by the word of its timeout; without one it has no timeout
-abbrev pub IsStopOrder : Option Text → List Row → Order → Type 0
-IsStopOrder None rows order = IsStopWithin None rows order
-IsStopOrder (Some word) rows order = (timeout : Option ℕ) × IsTimeout word timeout × IsStopIn timeout rows order
+abbrev pub IsStopOrder : List Row → Order → Type 0
+IsStopOrder rows order = (request : Option ControlRequest)
+    × IsStopRequest (first_of (codes "session") rows) (is_set (codes "now") rows) request × IsStopFor request rows order
 
 -- the subcommands; any other name is `show`
 pub data Subcommand : Type 0 where
@@ -246,7 +265,7 @@ IsOrderFor ForFrame rows order = (frame : FrameOrder) × (order ≡ Frame frame)
 IsOrderFor ForSettings rows order = (settings : SettingsOrder) × (order ≡ Settings settings) × IsSettingsOrder rows settings
 IsOrderFor ForStatus rows order =
     IsStatusOrder (format_named (unwrap_or (first_of (codes "format") rows) (codes "table"))) rows order
-IsOrderFor ForStop rows order = IsStopOrder (first_of (codes "timeout") rows) rows order
+IsOrderFor ForStop rows order = IsStopOrder rows order
 IsOrderFor ForShow rows order =
     IsShowOrder (side_named (unwrap_or (first_of (codes "side") rows) (codes "bot")))
     (level_named (unwrap_or (first_of (codes "level") rows) (codes "0"))) rows order

@@ -3,7 +3,7 @@
 ghost use Rattle.std.specs.Prelude.{◌≡◌, map, option_map, unwrap_or, codes};
 ghost use Rattle.std.specs.List.{list_any};
 ghost use Rattle.clap.specs.Words.{rows_of, found_of, subcommand_rows_of, first_of, all_of};
-ghost use Rattle.daide_command_line.specs.CommandLine.{format_named, json_named, IsTimeout, IsStatusOrder, IsStopWithin, IsStopOrder};
+ghost use Rattle.daide_command_line.specs.CommandLine.{format_named, json_named, IsNumberTo, IsStatusOrder, IsStopRequest, IsStopTimeout, IsStopOrder};
 ghost use Rattle.daide_command_line.specs.CommandLine.{begins_negative, side_named, level_named, is_set};
 ghost use Rattle.daide_command_line.specs.CommandLine.{IsRunOrder, IsCheckOrder, IsTranscriptOrder, IsFrameOrder, IsSettingsOrder, IsShowOrder, IsOrderFor, IsOrderOf, subcommand_named, ParsesTo, parsed_by};
 
@@ -12,7 +12,7 @@ use clap::ArgMatches;
 use clap::error::Error;
 use daide_frame::side::Side;
 use daide_grammar::level::Level;
-use daide_status::Format;
+use daide_status::{ControlRequest, Format};
 use std::alloc::Global;
 use std::convert::AsStr;
 
@@ -45,6 +45,8 @@ pub enum Order<'m, 'a> {
     BadMessageFormat,
     /// The value of `--timeout` is not a number of seconds.
     BadTimeout,
+    /// The value of `--session` is not the number of a session, or `--now` is beside it.
+    BadSession,
 }
 
 /// The order to show a frame.
@@ -123,9 +125,9 @@ pub struct StatusOrder<'m, 'a> {
 pub struct StopOrder<'a> {
     /// The path of the settings of the run.
     pub settings: &'a str,
-    /// Whether the sessions are ended at once.
-    pub is_now: bool,
-    /// The seconds after which the command gives up waiting; `None` if it waits until the run is over.
+    /// What is requested: a stop of the run, of the run with its sessions, or of one session.
+    pub request: ControlRequest,
+    /// The seconds after which the command gives up waiting; `None` if it waits until the run, or the session, is over.
     pub timeout: Option<u32>,
 }
 
@@ -168,12 +170,12 @@ fn format_named(word: &str) -> Option<Format>
     }
 }
 
-/// Returns the seconds of a timeout: 1 to 86,400, in decimal digits.
-fn seconds_named(word: &str) -> Option<u32>
-    ensures { IsTimeout word.now result }
+/// Returns a number from 1 to a greatest one, in decimal digits.
+fn number_named(word: &str, most: u32) -> Option<u32>
+    ensures { IsNumberTo most word.now result }
 {
     match word.parse::<u32>() {
-        Ok(seconds) if 1 <= seconds && seconds <= 86_400 => Some(seconds),
+        Ok(number) if 1 <= number && number <= most => Some(number),
         _ => None,
     }
 }
@@ -314,28 +316,43 @@ fn status_order<'m, 'a>(status: &'m ArgMatches<'a>) -> Order<'m, 'a>
     })
 }
 
-/// Returns the order of `stop` with this timeout.
-fn stop_within<'m, 'a>(stop: &ArgMatches<'a>, timeout: Option<u32>) -> Order<'m, 'a>
-    ensures { IsStopWithin timeout (rows_of (found_of stop.now)) result }
+/// Returns the request of `stop`; `None` if the number of the session is bad, or `--now` is beside it.
+fn stop_request(session: Option<&str>, is_now: bool) -> Option<ControlRequest>
+    ensures { IsStopRequest (option_map (λ word. word.now) session.entry) is_now result }
 {
-    Order::Stop(StopOrder {
-        settings: value_of(stop, "SETTINGS").unwrap_or(""),
-        is_now: is_given(stop, "now"),
-        timeout,
-    })
+    match (session, is_now) {
+        (None, false) => Some(ControlRequest::Stop),
+        (None, true) => Some(ControlRequest::StopNow),
+        (Some(word), false) => Some(ControlRequest::StopSession(number_named(word, u32::MAX)?)),
+        (Some(_), true) => None,
+    }
 }
 
-/// Returns the order of `stop`.
-fn stop_order<'m, 'a>(stop: &ArgMatches<'a>) -> Order<'m, 'a>
-    ensures { IsStopOrder (first_of (codes "timeout") (rows_of (found_of stop.now))) (rows_of (found_of stop.now)) result }
+/// Returns the timeout of `stop`, if it has one; `None` if it is bad.
+fn stop_timeout(word: Option<&str>) -> Option<Option<u32>>
+    ensures { IsStopTimeout (option_map (λ word. word.now) word.entry) result }
 {
-    let Some(word) = value_of(stop, "timeout") else {
-        return stop_within(stop, None);
-    };
-    match seconds_named(word) {
-        Some(seconds) => stop_within(stop, Some(seconds)),
-        None => Order::BadTimeout,
+    match word {
+        None => Some(None),
+        Some(word) => Some(Some(number_named(word, 86_400)?)),
     }
+}
+
+/// Returns the order of `stop`. A bad session is refused before a bad timeout.
+fn stop_order<'m, 'a>(stop: &ArgMatches<'a>) -> Order<'m, 'a>
+    ensures { IsStopOrder (rows_of (found_of stop.now)) result }
+{
+    let Some(request) = stop_request(value_of(stop, "session"), is_given(stop, "now")) else {
+        return Order::BadSession;
+    };
+    let Some(timeout) = stop_timeout(value_of(stop, "timeout")) else {
+        return Order::BadTimeout;
+    };
+    Order::Stop(StopOrder {
+        settings: value_of(stop, "SETTINGS").unwrap_or(""),
+        request,
+        timeout,
+    })
 }
 
 /// Returns the order of `show`. A bad side is refused before a bad level.

@@ -149,14 +149,16 @@ Examples:
 /// The help on `stop`, with examples and exit statuses.
 const STOP_NOTES: &str = "\
 The run accepts no further bot. Without '--now' its open sessions go on, and it ends when the last one is over; with
-'--now' each session ends: its bot and the server get an FM, and both connections end. The command returns when the
-run is over.
-The exit status is 0 if the run is over, and 1 if it goes on after the timeout, or if nobody listens at the path of the
-settings' key 'control'.
+'--now' each session ends: its bot and the server get an FM, and both connections end. With '--session' the run goes
+on, and only the session with this number ends, as with '--now'; 'status' has the numbers. The command returns when
+the run, or that session, is over.
+The exit status is 0 if it is over, and 1 if it goes on after the timeout, if the run has no such session, or if nobody
+listens at the path of the settings' key 'control' or answers in five seconds.
 
 Examples:
   daide-gate stop tournament.toml
-  daide-gate stop --now --timeout 30 tournament.toml";
+  daide-gate stop --now --timeout 30 tournament.toml
+  daide-gate stop --session 12 tournament.toml";
 
 /// The help on the file of a run's settings.
 const SETTINGS_OF_RUN: &str = "The file of settings of the run, with the key 'control'";
@@ -311,13 +313,18 @@ const COMMANDS: &[CommandRow] = &[
     },
     CommandRow {
         name: "stop",
-        about: "Stops a run, and returns when it is over",
+        about: "Stops a run or one of its sessions, and returns when it is over",
         notes: STOP_NOTES,
         arguments: &[
             Argument {
                 name: "now",
                 takes: Takes::Nothing,
                 help: "End the open sessions by the protocol",
+            },
+            Argument {
+                name: "session",
+                takes: Takes::Value("N"),
+                help: "End only the session with this number, 1 to 4294967295",
             },
             Argument {
                 name: "timeout",

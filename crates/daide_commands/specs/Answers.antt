@@ -7,7 +7,7 @@ use Rattle.clap.specs.declared.error.kind.ErrorKind.{ErrorKind}
 use Rattle.clap.specs.declared.error.kind.ErrorKind.TheVariants.{DisplayHelp, DisplayVersion, OutOfMemory}
 use Rattle.daide_command_line.specs.declared.arguments.Order.{Order}
 use Rattle.daide_command_line.specs.declared.arguments.Order.TheVariants.{Show, Check, Frame, Settings, Run, BadSide}
-use Rattle.daide_command_line.specs.declared.arguments.Order.TheVariants.{BadLevel, Status, Stop, BadFormat, BadTimeout}
+use Rattle.daide_command_line.specs.declared.arguments.Order.TheVariants.{BadLevel, Status, Stop, BadFormat, BadTimeout, BadSession}
 use Rattle.daide_command_line.specs.declared.arguments.Order.TheVariants.{Transcript, BadMessageFormat}
 use Rattle.daide_command_line.specs.CommandLine.{ParsesTo, IsOrderOf}
 use Rattle.daide_command_line.specs.declared.arguments.RunOrder.{RunOrder}
@@ -39,15 +39,17 @@ RunOrderEnds Opens remaining Runs order old new status = ((status ≡ 1) × (new
 -- ---- an order
 
 -- Files by their names, as `IsTextAt` takes them, runs by their control paths, as `ReachesRun` takes them with what was
--- written to a stream and what it has left, and runs of a text. `read` and `write` say that a read of standard input or a
--- write of the output failed, `refused` and `unsettled` that memory was refused, the latter for settings.
+-- written to a stream and what it has left, and runs of a text. `read`, `file` and `write` say that a read of standard
+-- input, a read of a file or a write of the output failed, `refused` and `unsettled` that memory was refused, the latter
+-- for settings.
 module _ {F S : Type 0} (Opens : List ℕ → Result F IoError → Type 0) (remaining : F → Option (List ℕ))
     (Reaches : List ℕ → Result S IoError → Type 0) (written left : S → Option (List ℕ)) (Runs : RunRelation)
-    (read refused unsettled write : Type 0) where
+    (read file refused unsettled write : Type 0) where
   -- The end of an order, by the bytes of standard input and by the rest of them that is unread.
   abbrev pub OrderEnds : Order → Option (List ℕ) → Option (List ℕ) → Option (List ℕ) → Option (List ℕ) → ℕ → Type 0
   OrderEnds (Show order) known rest old new status = ShowRuns Opens remaining read refused write order known old new status
-  OrderEnds (Check order) known rest old new status = CheckRuns Opens remaining read write order known rest old new status
+  OrderEnds (Check order) known rest old new status =
+      CheckRuns Opens remaining read file refused write order known rest old new status
   OrderEnds (Transcript order) known rest old new status = status ≤ 1
   OrderEnds (Frame order) known rest old new status = FrameRuns Opens remaining read refused write order known old new status
   OrderEnds (Settings order) known rest old new status =
@@ -62,6 +64,7 @@ module _ {F S : Type 0} (Opens : List ℕ → Result F IoError → Type 0) (rema
   OrderEnds BadFormat known rest old new status = (status ≡ 2) × (new ≡ old)
   OrderEnds BadMessageFormat known rest old new status = (status ≡ 2) × (new ≡ old)
   OrderEnds BadTimeout known rest old new status = (status ≡ 2) × (new ≡ old)
+  OrderEnds BadSession known rest old new status = (status ≡ 2) × (new ≡ old)
 
 -- ---- arguments that give no order
 
@@ -76,12 +79,12 @@ pub record UsageEnds (why : ErrorKind) (old new : Option (List ℕ)) (status : �
 
 module _ {F S : Type 0} (Opens : List ℕ → Result F IoError → Type 0) (remaining : F → Option (List ℕ))
     (Reaches : List ℕ → Result S IoError → Type 0) (written left : S → Option (List ℕ)) (Runs : RunRelation)
-    (read refused unsettled write : Type 0) where
+    (read file refused unsettled write : Type 0) where
   -- the end of the program: that of the order for this parse, or a usage error, which reads nothing of standard input
   abbrev pub GivenEnds : Result (Option (Text × List Row)) ErrorKind → Option (List ℕ) → Option (List ℕ) →
       Option (List ℕ) → Option (List ℕ) → ℕ → Type 0
   GivenEnds (Ok asked) known rest old new status = (order : Order) × IsOrderOf asked order
-      × OrderEnds Opens remaining Reaches written left Runs read refused unsettled write order known rest old new status
+      × OrderEnds Opens remaining Reaches written left Runs read file refused unsettled write order known rest old new status
   GivenEnds (Err why) known rest old new status = (rest ≡ known) × UsageEnds why old new status
 
   -- the status and the output are those of the order for the arguments, by what happened outside

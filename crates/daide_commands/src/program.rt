@@ -21,6 +21,7 @@ use daide_log::Recording;
 use daide_run::folder::SessionFile;
 use daide_settings::SettingsMemory;
 use daide_sockets::connection::Connection;
+use daide_sockets::control_listener::FolderLock;
 use daide_sockets::os_network::OsNetwork;
 use daide_sockets::ports::SocketPorts;
 use daide_tools::checking::run_check;
@@ -63,25 +64,26 @@ fn report_usage<S: AsStr, O: Write, E: Write>(
 /// Carries out an order. Returns the status.
 fn carry_out<
     T: Read + Write + Drop,
-    R: AllocGlobal + FileOpener + RunReacher<T>,
+    F: Source + Drop,
+    R: AllocGlobal + FileOpener<F> + FolderLock + RunReacher<T>,
     I: Source,
     O: Sink,
     E: Sink,
 >(rt: &R, order: Order<'_, '_>, input: &mut I, output: &mut O, errors: &mut E) -> io::Result<u8>
     ensures bounded { IfOk result (λ status. status ≤ NOT_RELAYED) }
-    ensures ended { IfOk result (OrderEnds R.Opens R.File.remaining R.Reaches T.contents T.remaining
+    ensures ended { IfOk result (OrderEnds R.Opens F.remaining R.Reaches T.contents T.remaining
         (λ records text. TextRuns records ⟦<OsNetwork<'static, R> as Network>⟧.transition
         ⟦<Connection as Duplex>⟧.to_give ⟦<Connection as Duplex>⟧.taken ⟦<Connection as Duplex>⟧.calls
         ⟦<Recording<SocketPorts<'static, Connection>, SessionFile<R::File>> as Ports>⟧.transition
         (record_events ⟦<SessionFile<R::File> as Write>⟧.contents ⟦<SessionFile<R::File> as Sink>⟧.Fails
         (WasReported E.contents E.Fails)) text (HasFailed O.Fails))
-        (HasFailed I.Fails) (WasRefused ⟦<Global as Memory>⟧.Refuses)
+        (HasFailed I.Fails) (HasFailed F.Fails) (WasRefused ⟦<Global as Memory>⟧.Refuses)
         (AreSettingsRefused ⟦<Global as Memory>⟧.Refuses ⟦<Global as SettingsMemory>⟧.Refuses) (HasFailed O.Fails)
         order.entry (I.remaining input.old) (I.remaining input.new) (O.contents output.old) (O.contents output.new)) }
 {
     match order {
         Order::Show(order) => run_show(rt.alloc(), rt, order, input, output, errors),
-        Order::Check(order) => run_check(rt, order, input, output, errors),
+        Order::Check(order) => run_check(rt.alloc(), rt, order, input, output, errors),
         Order::Transcript(order) => run_transcript(rt, order, input, output, errors),
         Order::Frame(order) => run_frame(rt.alloc(), rt, order, input, output, errors),
         Order::Settings(order) => run_settings(rt.alloc(), rt, order, input, output, errors),
@@ -113,6 +115,11 @@ fn carry_out<
             "bad timeout; it must be 1 to 86400 seconds",
             USAGE,
         ),
+        Order::BadSession => print_fault(
+            errors,
+            "bad session; it must be 1 to 4294967295, without --now",
+            USAGE,
+        ),
     }
 }
 
@@ -129,30 +136,32 @@ fn carry_out<
 /// path of the settings of its file. `stop` returns 0 only if the run of its settings was reached so, was sent the request
 /// of the order, and then ended the stream (`ReachesRun`). A failed write ends `show`, `check`, `frame`, `settings` and
 /// `status` only if a write failed, and a failed read of standard input `show`, `check` and `frame` only if a read failed.
+/// `check FILE..` says that a file could not be read only if it could not be opened, or if a read of a file failed.
 /// Words that are not understood return 2 and write nothing to the output. Help and version return 0 or 1, and refused
 /// memory returns 1 (`UsageEnds`).
 ///
 /// Premise: no word begins with a hyphen and a digit. With such a word `frame` takes negative numbers, and `clap`'s
 /// contracts say nothing of that; then the program ends as some order does.
 ///
-/// Not said: the texts of help, usage and faults; that memory was refused, which `run_show`, `run_frame` and
+/// Not said: the texts of help, usage and faults; that memory was refused, which `run_show`, `run_check`, `run_frame` and
 /// `run_settings` say of any memory.
 pub fn answer<
     T: Read + Write + Drop,
-    R: AllocGlobal + FileOpener + RunReacher<T>,
+    F: Source + Drop,
+    R: AllocGlobal + FileOpener<F> + FolderLock + RunReacher<T>,
     S: AsStr,
     I: Source,
     O: Sink,
     E: Sink,
 >(rt: &R, words: &[S], input: &mut I, output: &mut O, errors: &mut E) -> io::Result<u8>
     ensures bounded { IfOk result (λ status. status ≤ NOT_RELAYED) }
-    ensures answered { IfOk result (CommandEnds R.Opens R.File.remaining R.Reaches T.contents T.remaining
+    ensures answered { IfOk result (CommandEnds R.Opens F.remaining R.Reaches T.contents T.remaining
         (λ records text. TextRuns records ⟦<OsNetwork<'static, R> as Network>⟧.transition
         ⟦<Connection as Duplex>⟧.to_give ⟦<Connection as Duplex>⟧.taken ⟦<Connection as Duplex>⟧.calls
         ⟦<Recording<SocketPorts<'static, Connection>, SessionFile<R::File>> as Ports>⟧.transition
         (record_events ⟦<SessionFile<R::File> as Write>⟧.contents ⟦<SessionFile<R::File> as Sink>⟧.Fails
         (WasReported E.contents E.Fails)) text (HasFailed O.Fails))
-        (HasFailed I.Fails) (WasRefused ⟦<Global as Memory>⟧.Refuses)
+        (HasFailed I.Fails) (HasFailed F.Fails) (WasRefused ⟦<Global as Memory>⟧.Refuses)
         (AreSettingsRefused ⟦<Global as Memory>⟧.Refuses ⟦<Global as SettingsMemory>⟧.Refuses) (HasFailed O.Fails)
         (map S.text words.now) (I.remaining input.old) (I.remaining input.new) (O.contents output.old)
         (O.contents output.new)) }

@@ -8,7 +8,7 @@ ghost use Rattle.daide_run.specs.Running.{TextRuns};
 ghost use Rattle.daide_commands.specs.Answers.{RunOrderEnds};
 
 use crate::causes::end_failed;
-use daide_causes::Sink;
+use daide_causes::{Sink, Source};
 use daide_command_line::arguments::RunOrder;
 use daide_io::duplex::Duplex;
 use daide_io::{Network, Ports};
@@ -16,6 +16,7 @@ use daide_log::Recording;
 use daide_run::folder::SessionFile;
 use daide_run::run_text;
 use daide_sockets::connection::Connection;
+use daide_sockets::control_listener::FolderLock;
 use daide_sockets::os_network::OsNetwork;
 use daide_sockets::ports::SocketPorts;
 use daide_tools::faults::{CLEAN, FAULT, print_fault};
@@ -28,14 +29,14 @@ use std::rt::Clock;
 
 /// Reads the settings of a file, binds the address, prints `listening`, and serves until all bots were served, with the
 /// folder of the order (`run_text`). Returns the status. Fails only if a fault could not be reported.
-pub(crate) fn run<R: AllocGlobal + FileOpener + Clock + Net, O: Sink, E: Sink>(
-    rt: &R,
-    order: RunOrder<'_>,
-    output: &mut O,
-    errors: &mut E,
-) -> io::Result<u8>
+pub(crate) fn run<
+    F: Source + Drop,
+    R: AllocGlobal + FileOpener<F> + FolderLock + Clock + Net,
+    O: Sink,
+    E: Sink,
+>(rt: &R, order: RunOrder<'_>, output: &mut O, errors: &mut E) -> io::Result<u8>
     ensures bounded { IfOk result (λ status. status ≤ FAULT) }
-    ensures ran { IfOk result (RunOrderEnds R.Opens R.File.remaining
+    ensures ran { IfOk result (RunOrderEnds R.Opens F.remaining
         (λ records text. TextRuns records ⟦<OsNetwork<'static, R> as Network>⟧.transition
         ⟦<Connection as Duplex>⟧.to_give ⟦<Connection as Duplex>⟧.taken ⟦<Connection as Duplex>⟧.calls
         ⟦<Recording<SocketPorts<'static, Connection>, SessionFile<R::File>> as Ports>⟧.transition

@@ -2,6 +2,7 @@
 use Rattle.std.proofs.Common.{◌≡◌, ℕ, zero, suc, ◌+◌, ◌<◌, true, false, List, [], ◌∷◌, ◌++◌}
 use Rattle.std.proofs.Common.{Option, Some, None, refl, sym, ap, ◌∙◌, subst, arith, add-one}
 use Rattle.std.specs.Prelude.{slice_get, slice_set}
+use Rattle.daide_protocol.specs.declared.account.Account.{Account}
 use Rattle.daide_io.specs.Ports.{PortCall, TurnBegins}
 use Rattle.daide_io.specs.System.{SystemCall, BeginsTurn, TransitsBy}
 use Rattle.daide_driver.specs.declared.meter.Meter.{Meter}
@@ -40,10 +41,11 @@ module _ {P : Type 0} where
 
 module _ {P : Type 0} (port_transition : P → PortCall → P → Type 0) where
   -- when its turn begins, the place has the ports that the loan left, and the session and its meter are unchanged
-  pub lent : (slab : SlabView P) (place : ℕ) (old new : P) → is_at is_held slab.places place ≡ true →
-      IfHeldAt slab.places place (λ now. old ≡ now.ports) → port_transition old TurnBegins new →
-      ChangesAt (OpensTurn port_transition place (BeginsTurn place old new ∷ [])) slab place (with_ports_at_place slab place new)
-  lent slab place old new held value begins =
+  pub lent : (slab : SlabView P) (place : ℕ) (account : Account) (old new : P) → is_at is_held slab.places place ≡ true →
+      IfHeldAt slab.places place (λ now. account ≡ now.session.account) → IfHeldAt slab.places place (λ now. old ≡ now.ports) →
+      port_transition old TurnBegins new →
+      ChangesAt (OpensTurn port_transition place (BeginsTurn place account old new ∷ [])) slab place (with_ports_at_place slab place new)
+  lent slab place account old new held counted value begins =
       let found = held_in (slice_get slab.places place) held in
       let now = found.0 in
       let same : old ≡ now.ports = value now found.1 in (
@@ -57,17 +59,17 @@ module _ {P : Type 0} (port_transition : P → PortCall → P → Type 0) where
             ports = subst (λ (ports : P). port_transition ports TurnBegins new) same begins;
             meter = refl;
           },
-          ap (λ (ports : P). BeginsTurn place ports new ∷ []) same,
+          λ i. BeginsTurn place (counted now found.1 i) (same i) new ∷ [],
         ),
       )
 
   -- so the turn finds its session
-  pub lent_there : (slab : SlabView P) (place : ℕ) (old new : P) → is_at is_held slab.places place ≡ true →
-      IfHeldAt slab.places place (λ now. old ≡ now.ports) → port_transition old TurnBegins new →
-      is_at is_held (with_ports_at_place slab place new).places place ≡ true
-  lent_there slab place old new held value begins =
-      held_then (OpensTurn port_transition place (BeginsTurn place old new ∷ [])) slab place (with_ports_at_place slab place new)
-      (lent slab place old new held value begins)
+  pub lent_there : (slab : SlabView P) (place : ℕ) (account : Account) (old new : P) → is_at is_held slab.places place ≡ true →
+      IfHeldAt slab.places place (λ now. account ≡ now.session.account) → IfHeldAt slab.places place (λ now. old ≡ now.ports) →
+      port_transition old TurnBegins new → is_at is_held (with_ports_at_place slab place new).places place ≡ true
+  lent_there slab place account old new held counted value begins =
+      held_then (OpensTurn port_transition place (BeginsTurn place account old new ∷ [])) slab place (with_ports_at_place slab place new)
+      (lent slab place account old new held counted value begins)
 
   -- and so does whatever comes after it
   pub turned_there : (old : SlabView P) (place : ℕ) (trace : List (SystemCall P))

@@ -3,12 +3,13 @@ use Rattle.std.proofs.Common.{◌≡◌, ℕ, zero, suc, ◌+◌, Bool, true, fa
 use Rattle.std.proofs.Common.{subst, arith, inl, inr}
 use Rattle.std.specs.Prelude.{count_by, slice_get, slice_set, if◌then◌else◌}
 use Rattle.std.proofs.lemmas.List.Sums.{sum_by-cons}
+use Rattle.daide_protocol.specs.declared.account.Account.{Account}
 use Rattle.daide_protocol.specs.Wires.{is_closed}
 use Rattle.daide_io.specs.Ports.{PortCall}
 use Rattle.daide_io.specs.declared.system.Connect.{Connect}
 use Rattle.daide_io.specs.declared.system.Connect.TheVariants.{Ready, Failed, Pending}
 use Rattle.daide_io.specs.declared.system.Notice.{Notice}
-use Rattle.daide_io.specs.declared.system.Notice.TheVariants.{CannotReach, TurnsSpent}
+use Rattle.daide_io.specs.declared.system.Notice.TheVariants.{TurnsSpent}
 use Rattle.daide_io.specs.declared.system.Orders.{Orders}
 use Rattle.daide_io.specs.declared.system.SessionEnd.{SessionEnd}
 use Rattle.daide_io.specs.declared.system.SessionStatus.{SessionStatus}
@@ -79,14 +80,14 @@ module _ {P : Type 0} where
   -- this counts nothing in a visit
   pub record IsOfOpening (count : SystemCall P → ℕ) : Type 0 where
     pub connects : (place : ℕ) (connect : Connect P) → count (Connects place connect) ≡ 0
-    pub turns : (place : ℕ) (before after : P) → count (BeginsTurn place before after) ≡ 0
+    pub turns : (place : ℕ) (account : Account) (before after : P) → count (BeginsTurn place account before after) ≡ 0
     pub rests : (place : ℕ) (ports : P) (rests : Bool) → count (Rests place ports rests) ≡ 0
     pub retires : (place : ℕ) (ports : P) (end : SessionEnd) → count (Retires place ports end) ≡ 0
     pub notifies : (notice : Notice) → count (Notifies notice) ≡ 0
 
 module _ {P : Type 0} (port_transition : P → PortCall → P → Type 0) (count : SystemCall P → ℕ) where
   -- the calls that begin turns add nothing, if one adds nothing
-  pub turns_none : ((place : ℕ) (before after : P) → count (BeginsTurn place before after) ≡ 0) → (n : ℕ)
+  pub turns_none : ((place : ℕ) (account : Account) (before after : P) → count (BeginsTurn place account before after) ≡ 0) → (n : ℕ)
       (old : SlabView P) (place : ℕ) (trace : List (SystemCall P)) (new : SlabView P) →
       TurnsInRow port_transition n old place trace new → sum_over_calls count trace ≡ 0
   turns_none none zero old place trace new h = ap (sum_over_calls count) h.0
@@ -96,7 +97,7 @@ module _ {P : Type 0} (port_transition : P → PortCall → P → Type 0) (count
       let begins = h.6.begins in
       let last : sum_over_calls count h.2 ≡ 0 =
       ap (sum_over_calls count) begins.4.1
-      ∙ (let one = none place begins.0.ports begins.1.ports in omega (arith, one)) in
+      ∙ (let one = none place begins.0.session.account begins.0.ports begins.1.ports in omega (arith, one)) in
       omega (arith, all, before, last)
 
   pub rests_none : ((place : ℕ) (ports : P) (rests : Bool) → count (Rests place ports rests) ≡ 0) → (moved : Bool) (place : ℕ)
@@ -149,9 +150,7 @@ module _ {P : Type 0} (port_transition : P → PortCall → P → Type 0) (count
             sum_over_calls count joining ≡ 0
         by (Ready ports) joining m = turned_none (record old { slab = m.0 }) place turns joining new m.2
         by Failed joining m =
-            let all = ap (sum_over_calls count) m.1 in
-            let word = early.notifies CannotReach in
-            omega (arith, all, word)
+            ap (sum_over_calls count) m.1
         by Pending joining m = ap (sum_over_calls count) m.1
     visit_none (Some (Held now)) old place turns trace new h = turned_none old place turns trace new h
 
@@ -312,10 +311,10 @@ module _ {P : Type 0} (port_transition : P → PortCall → P → Type 0) where
       let same = turns_counts turns old.slab place h.turning h.turned made in
       counts_then trace h.turning h.leaving old mid new h.asked
       (same_counts h.turning old mid
-      (turns_none port_transition comes (λ place before after. refl) turns old.slab place h.turning h.turned made)
-      (turns_none port_transition connects (λ place before after. refl) turns old.slab place h.turning h.turned made)
-      (turns_none port_transition retires (λ place before after. refl) turns old.slab place h.turning h.turned made)
-      (turns_none port_transition unreached (λ place before after. refl) turns old.slab place h.turning h.turned made)
+      (turns_none port_transition comes (λ place account before after. refl) turns old.slab place h.turning h.turned made)
+      (turns_none port_transition connects (λ place account before after. refl) turns old.slab place h.turning h.turned made)
+      (turns_none port_transition retires (λ place account before after. refl) turns old.slab place h.turning h.turned made)
+      (turns_none port_transition unreached (λ place account before after. refl) turns old.slab place h.turning h.turned made)
       refl same.0 same.1)
       (leave_counts (is_closed h.now.session) h.now mid place h.leaving new h.there h.leaves)
 
@@ -348,7 +347,7 @@ module _ {P : Type 0} (port_transition : P → PortCall → P → Type 0) where
           let sessions = set_count is_held old.slab.places place Kept Free there in
           let pending = set_count is_kept old.slab.places place Kept Free there in
           subst (λ (l : List (SystemCall P)). Counts l old new) (sym (e ∙ ap (λ (l : List (SystemCall P)). Connects place Failed ∷ l) m.1))
-          (subst (λ (s : ServiceView P). Counts (Connects place Failed ∷ Notifies CannotReach ∷ []) old s) (sym m.2) (record {
+          (subst (λ (s : ServiceView P). Counts (Connects place Failed ∷ []) old s) (sym m.2) (record {
             came = omega arith;
             held = omega (arith, sessions);
             met = omega (arith, pending);

@@ -28,7 +28,7 @@ module _ {P : Type 0} where
   pub accepts_early : IsOfOpening {P = P} accept_calls
   accepts_early = record {
     connects = λ place connect. refl;
-    turns = λ place before after. refl;
+    turns = λ place account before after. refl;
     rests = λ place ports rests. refl;
     retires = λ place ports end. refl;
     notifies = λ notice. refl;
@@ -37,7 +37,7 @@ module _ {P : Type 0} where
   shows_early : IsOfOpening {P = P} show_calls
   shows_early = record {
     connects = λ place connect. refl;
-    turns = λ place before after. refl;
+    turns = λ place account before after. refl;
     rests = λ place ports rests. refl;
     retires = λ place ports end. refl;
     notifies = λ notice. refl;
@@ -46,7 +46,7 @@ module _ {P : Type 0} where
   orders_early : (Has : Orders → Bool) → IsOfOpening {P = P} (orders_with Has)
   orders_early Has = record {
     connects = λ place connect. refl;
-    turns = λ place before after. refl;
+    turns = λ place account before after. refl;
     rests = λ place ports rests. refl;
     retires = λ place ports end. refl;
     notifies = λ notice. refl;

@@ -15,7 +15,7 @@ use Rattle.daide_io.specs.System.{SystemCall, Polls, Accepts, Connects, Rests, R
 use Rattle.daide_io.specs.declared.system.Orders.{Orders}
 use Rattle.daide_io.specs.declared.system.Connect.{Connect}
 use Rattle.daide_io.specs.declared.system.Connect.TheVariants.{Ready, Failed, Pending}
-use Rattle.daide_io.specs.declared.system.Notice.TheVariants.{CannotReach, TurnsSpent}
+use Rattle.daide_io.specs.declared.system.Notice.TheVariants.{TurnsSpent}
 use Rattle.daide_driver.specs.Meter.{has_spent_turns}
 use Rattle.daide_driver.specs.declared.place.SlabPlace.{SlabPlace}
 use Rattle.daide_driver.specs.declared.place.SlabPlace.TheVariants.{Free, Kept, Held}
@@ -64,7 +64,7 @@ module _ {P : Type 0} (port_transition : P → PortCall → P → Type 0) (other
   given_elsewhere old turns trace new h =
       All-same (IsElsewhere place) trace (h.turning ++ h.leaving) h.asked
       (All-append (IsElsewhere place) h.turning h.leaving
-      (all_turns port_transition (IsElsewhere place) other (λ before after. apart_test other place apart) turns old.slab h.turning
+      (all_turns port_transition (IsElsewhere place) other (λ account before after. apart_test other place apart) turns old.slab h.turning
       h.turned h.takes.made)
       (leave_elsewhere (is_closed h.now.session) h.now (record old { slab = h.turned }) h.leaving new h.leaves))
 
@@ -81,8 +81,7 @@ module _ {P : Type 0} (port_transition : P → PortCall → P → Type 0) (other
           All (IsElsewhere place) joining
       by (Ready ports) joining m = given_elsewhere (record old { slab = m.0 }) turns joining new m.2
       by Failed joining m =
-          All-same (IsElsewhere place) joining (Notifies CannotReach ∷ []) m.1
-          (All-cons (IsElsewhere place) (Notifies CannotReach) [] refl (All-nil (IsElsewhere place)))
+          All-same (IsElsewhere place) joining [] m.1 (All-nil (IsElsewhere place))
       by Pending joining m = All-same (IsElsewhere place) joining [] m.1 (All-nil (IsElsewhere place))
   visit_elsewhere (Some (Held now)) old turns trace new h = given_elsewhere old turns trace new h
 

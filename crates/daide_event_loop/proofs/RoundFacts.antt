@@ -115,6 +115,7 @@ counts limits n = record {
   faults = n + 6;
   level = limits.top_level;
   name = Unknown;
+  power = None;
 }
 
 -- a session with a phase, counts, the header of an RM from the server, and frames queued for its bot

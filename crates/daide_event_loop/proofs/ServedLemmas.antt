@@ -5,6 +5,7 @@ use Rattle.std.specs.List.{list_all}
 use Rattle.std.proofs.lemmas.Bool.{eqb-true, eqb-false}
 use Rattle.std.proofs.lemmas.List.Elements.{All-nil, All-cons, All-same, All-append, All-push, All-weaker}
 use Rattle.std.proofs.lemmas.List.Elements.{Contains-append_left, Contains-append_right}
+use Rattle.daide_protocol.specs.declared.account.Account.{Account}
 use Rattle.daide_protocol.specs.Machine.{Limits, SessionState, is_over}
 use Rattle.daide_protocol.specs.Wires.{SessionView, IsNew, is_closed}
 use Rattle.daide_io.specs.Ports.{PortCall, TurnBegins}
@@ -22,7 +23,7 @@ use Rattle.daide_driver.proofs.HubLemmas.{closed_over}
 use Rattle.daide_settings.specs.declared.settings.Settings.{Settings}
 use Rattle.daide_io.specs.declared.system.Connect.{Connect}
 use Rattle.daide_io.specs.declared.system.Connect.TheVariants.{Ready, Failed, Pending}
-use Rattle.daide_io.specs.declared.system.Notice.TheVariants.{CannotReach, TurnsSpent}
+use Rattle.daide_io.specs.declared.system.Notice.TheVariants.{TurnsSpent}
 use Rattle.daide_io.specs.declared.system.SessionStatus.{SessionStatus}
 use Rattle.daide_event_loop.specs.declared.admission_counters.AdmissionCounters.{AdmissionCounters}
 use Rattle.daide_io.specs.System.{SystemCall, Polls, Shows, Accepts, Connects, BeginsTurn, Rests, Retires, Notifies, status_of}
@@ -110,7 +111,7 @@ module _ {P : Type 0} (port_transition : P → PortCall → P → Type 0) where
 -- ---- what holds of each call of a trace
 
 module _ {P : Type 0} (port_transition : P → PortCall → P → Type 0) (Q : SystemCall P → Type 0) where
-  pub all_turns : (place : ℕ) → ((before after : P) → Q (BeginsTurn place before after)) → (n : ℕ)
+  pub all_turns : (place : ℕ) → ((account : Account) (before after : P) → Q (BeginsTurn place account before after)) → (n : ℕ)
       (old : SlabView P) (trace : List (SystemCall P)) (new : SlabView P) →
       TurnsInRow port_transition n old place trace new → All Q trace
   all_turns place each zero old trace new h = All-same Q trace [] h.0 (All-nil Q)
@@ -118,8 +119,9 @@ module _ {P : Type 0} (port_transition : P → PortCall → P → Type 0) (Q : S
       let begins = h.6.begins in
       All-same Q trace (h.1 ++ h.2) h.3
       (All-append Q h.1 h.2 (all_turns place each n old h.1 h.0 h.4)
-      (All-same Q h.2 (BeginsTurn place begins.0.ports begins.1.ports ∷ []) begins.4.1
-      (All-cons Q (BeginsTurn place begins.0.ports begins.1.ports) [] (each begins.0.ports begins.1.ports) (All-nil Q))))
+      (All-same Q h.2 (BeginsTurn place begins.0.session.account begins.0.ports begins.1.ports ∷ []) begins.4.1
+      (All-cons Q (BeginsTurn place begins.0.session.account begins.0.ports begins.1.ports) []
+      (each begins.0.session.account begins.0.ports begins.1.ports) (All-nil Q))))
 
   pub all_rests : (place : ℕ) → ((ports : P) (rests : Bool) → Q (Rests place ports rests)) → (moved : Bool) (ports : P)
       (trace : List (SystemCall P)) (rests : Bool) → RestsBy moved place ports trace rests → All Q trace
@@ -164,7 +166,7 @@ module _ {P : Type 0} (port_transition : P → PortCall → P → Type 0) (setti
   gone_later xs ys (Shows ports status) h = tt
   gone_later xs ys (Accepts place came) h = tt
   gone_later xs ys (Connects place connect) h = tt
-  gone_later xs ys (BeginsTurn place before after) h = tt
+  gone_later xs ys (BeginsTurn place account before after) h = tt
   gone_later xs ys (Rests place ports rests) h = tt
   gone_later xs ys (Notifies notice) h = tt
 
@@ -335,7 +337,7 @@ module _ {P : Type 0} (port_transition : P → PortCall → P → Type 0) (setti
           held = goes.held;
           gone = All-same Gone trace (h.turning ++ h.leaving) h.asked
               (All-append Gone h.turning h.leaving
-              (all_turns port_transition Gone place (λ before after. tt) turns old.slab h.turning h.turned made) goes.gone);
+              (all_turns port_transition Gone place (λ account before after. tt) turns old.slab h.turning h.turned made) goes.gone);
         }
       where
         each : ChangesOnlyAt place old.slab h.turned → IfHeldAt h.turned.places place (Served place) →
@@ -422,10 +424,9 @@ module _ {P : Type 0} (port_transition : P → PortCall → P → Type 0) (setti
             record {
               limits = only.limits;
               held = each_held place old.slab new.slab Served only held (none_here new.slab place (Served place) free);
-              gone = All-same Gone trace (Connects place Failed ∷ Notifies CannotReach ∷ [])
+              gone = All-same Gone trace (Connects place Failed ∷ [])
                   (e ∙ ap (λ (l : List (SystemCall P)). Connects place Failed ∷ l) m.1)
-                  (All-cons Gone (Connects place Failed) (Notifies CannotReach ∷ []) tt
-                  (All-cons Gone (Notifies CannotReach) [] tt (All-nil Gone)));
+                  (All-cons Gone (Connects place Failed) [] tt (All-nil Gone));
             }
         by Pending joining e m =
             let slab = ap (λ (s : ServiceView P). s.slab) m.2 in

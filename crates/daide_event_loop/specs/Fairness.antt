@@ -7,7 +7,7 @@ use Rattle.daide_event_loop.specs.Serving.{ServiceView, Round, polled, round_tur
 
 -- 1 if the call begins a turn
 abbrev pub turn_calls : {P : Type 0} → SystemCall P → ℕ
-turn_calls (BeginsTurn place before after) = 1
+turn_calls (BeginsTurn place account before after) = 1
 turn_calls _ = 0
 
 -- the calls of a round begin at most 32 turns

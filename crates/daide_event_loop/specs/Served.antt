@@ -98,7 +98,7 @@ RetiresClosed transition settings trace (Polls may_block woken orders) = Unit {0
 RetiresClosed transition settings trace (Shows ports status) = Unit {0}
 RetiresClosed transition settings trace (Accepts place came) = Unit {0}
 RetiresClosed transition settings trace (Connects place connect) = Unit {0}
-RetiresClosed transition settings trace (BeginsTurn place before after) = Unit {0}
+RetiresClosed transition settings trace (BeginsTurn place account before after) = Unit {0}
 RetiresClosed transition settings trace (Rests place ports rests) = Unit {0}
 RetiresClosed transition settings trace (Notifies notice) = Unit {0}
 

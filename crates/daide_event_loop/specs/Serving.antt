@@ -23,7 +23,7 @@ use Rattle.daide_event_loop.specs.declared.serving.ServeFault.TheVariants as Fau
 use Rattle.daide_event_loop.specs.declared.admission_counters.AdmissionCounters.{AdmissionCounters}
 use Rattle.daide_io.specs.declared.system.Connect.{Connect}
 use Rattle.daide_io.specs.declared.system.Connect.TheVariants.{Ready, Failed, Pending}
-use Rattle.daide_io.specs.declared.system.Notice.TheVariants.{CannotReach, TurnsSpent}
+use Rattle.daide_io.specs.declared.system.Notice.TheVariants.{TurnsSpent}
 use Rattle.daide_io.specs.declared.system.Cause.{Cause}
 use Rattle.daide_io.specs.declared.system.Cause.TheVariants as Causes
 use Rattle.daide_io.specs.declared.system.Orders.{Orders}
@@ -110,11 +110,11 @@ opening woken orders run = Polls (is_queue_empty run) woken orders ∷ shows_whe
 
 -- ---- the turns of a session
 
--- the system begins a turn of a session with its own ports
+-- the system begins a turn of a session with its own account and ports
 abbrev pub OpensTurn : {P : Type 0} → (P → PortCall → P → Type 0) → ℕ → List (SystemCall P) →
     SlotView P → SlotView P → Type 0
 OpensTurn transition place trace old new =
-    IsSlotBegun transition old new × (trace ≡ BeginsTurn place old.ports new.ports ∷ [])
+    IsSlotBegun transition old new × (trace ≡ BeginsTurn place old.session.account old.ports new.ports ∷ [])
 
 -- the session at this place has one turn: it begins and runs
 pub record TakesTurn {P : Type 0} (transition : P → PortCall → P → Type 0) (old : SlabView P) (place : ℕ)
@@ -210,15 +210,15 @@ pub record TurnsAndLeaves {P : Type 0} (transition : P → PortCall → P → Ty
   pub leaves : LeavesVisit (is_closed now.session) now (record old { slab = turned }) place leaving new
   pub asked : trace ≡ turning ++ leaving
 
--- a completed connect turns into a session in its opening state, which has turns; a failed one is reported, and its place
--- is free; a pending one goes on
+-- a completed connect turns into a session in its opening state, which has turns; after a failed one its place is
+-- free; a pending one goes on
 abbrev pub JoinsBy : {P : Type 0} → (P → PortCall → P → Type 0) → Connect P → ServiceView P → ℕ → ℕ → List (SystemCall P) →
     ServiceView P → Type 0
 JoinsBy {P} transition (Ready ports) old place turns joining new =
     (opened : SlabView P) × OpensAt old.slab place ports old.counters.turns opened
     × TurnsAndLeaves transition (record old { slab = opened }) place turns joining new
 JoinsBy transition Failed old place turns joining new =
-    (turns ≡ 1) × (joining ≡ Notifies CannotReach ∷ []) × (new ≡ with_free_place old place)
+    (turns ≡ 1) × (joining ≡ []) × (new ≡ with_free_place old place)
 JoinsBy transition Pending old place turns joining new = (turns ≡ 1) × (joining ≡ []) × (new ≡ old)
 
 -- A visit of a place, by what is there. A visit without a turn counts as one, so that a round ends.

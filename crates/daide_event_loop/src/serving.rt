@@ -122,7 +122,8 @@ fn retire_session<P: Ports, S: System<P>>(
     system.retire(place, ports, end);
 }
 
-/// Makes one turn of the session at a place: the system begins it with the ports of that session, and then it runs.
+/// Makes one turn of the session at a place: the system begins it with the account and the ports of that session, and
+/// then it runs.
 #[inline(always)]
 fn take_turn<P: Ports, A: Allocator + Copy, S: System<P>>(
     slab: &mut Slab<P, A>,
@@ -133,7 +134,8 @@ fn take_turn<P: Ports, A: Allocator + Copy, S: System<P>>(
     ensures { (trace : List (SystemCall P)) × TransitsBy S.transition system.old trace system.new
         × TakesTurn P.transition slab.old place trace slab.new }
 {
-    system.begin_turn(place, slab.ports_mut(place));
+    let account = slab.session(place).account();
+    system.begin_turn(place, &account, slab.ports_mut(place));
     slab.turn(place);
 }
 
@@ -241,8 +243,8 @@ impl<P: Ports, A: Memory + Copy> Service<P, A> {
     }
 
     /// Visits a place without a session. If the connect of its bot completed, the session begins and has its turns; if it
-    /// failed, this is reported, and the place is free. Returns the number of turns. It is not inlined: the ports are large,
-    /// and most visits are of a session.
+    /// failed, the place is free. Returns the number of turns. It is not inlined: the ports are large, and most visits are
+    /// of a session.
     ///
     /// Fails with `Memory` if the allocator refused a body.
     #[inline(never)]
@@ -264,7 +266,6 @@ impl<P: Ports, A: Memory + Copy> Service<P, A> {
             Connect::Pending => Ok(1),
             Connect::Failed => {
                 self.slab.give_up(place);
-                system.log(Notice::CannotReach);
                 Ok(1)
             }
             Connect::Ready(ports) => {
@@ -324,7 +325,7 @@ impl<P: Ports, A: Memory + Copy> Service<P, A> {
     /// of the run, in this round and from then on (`closed`). Sessions and pending connects go on. Then places of the queue
     /// are visited: those that were at rest first, in their order, but the last of four visits goes to one that had turns
     /// before, if there is one (`Chooses`). A session has up to 8 turns, one after another while they make progress
-    /// (`TakesTurns`); the system begins each with the session's ports. Then it is retired if it is over and nothing waits.
+    /// (`TakesTurns`); the system begins each with the session's account and ports. Then it is retired if it is over and nothing waits.
     /// It rests if its last turn made no progress and the system has it rest, and otherwise joins the end of the queue
     /// (`LeavesVisit`). The visit of a bot without a session asks for its connect (`JoinsBy`). A bot is accepted only if a place
     /// is free and not all bots came (`Admits`).

@@ -31,8 +31,8 @@ pub use daide_io::{
     SessionEnd, SessionStatus, System, ports, system,
 };
 pub use daide_protocol::{
-    Account, BotName, Config, ConfigError, Counter, Deed, Ending, Note, Phase, SessionLimits,
-    SideCounts, Summary,
+    Account, BotName, Config, ConfigError, Counter, Deed, Ending, Note, Phase, Power,
+    SessionLimits, SideCounts, Summary,
 };
 pub use daide_session::{Session, SessionError};
 

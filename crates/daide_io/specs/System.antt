@@ -1,6 +1,7 @@
 -- The calls of the loop over sessions on its system, and their effect on the system.
 use Rattle.std.specs.Prelude.{◌≡◌, ℕ, ◌==◌, if◌then◌else◌, Bool, false, List, [], ◌∷◌, length, Option, Some}
 use Rattle.daide_frame.specs.declared.side.Side.TheVariants.{Bot, Server}
+use Rattle.daide_protocol.specs.declared.account.Account.{Account}
 use Rattle.daide_protocol.specs.Machine.{level_in, plain_phase}
 use Rattle.daide_protocol.specs.Wires.{SessionView, queued, sent_bytes}
 use Rattle.daide_io.specs.ReadyQueue.{is_among}
@@ -29,14 +30,14 @@ status_of session bytes = record {
 
 -- One call with its result: a poll, which may block or not, with the places that it woke and the operator's orders; the
 -- ports of a session whose status is shown; whether a bot arrived, which has this place from then on; the result of its
--- connect; the beginning of a turn, with the ports of the session before and after; a session that is to rest, and whether
--- it does; ports that were retired, with how their session ended; and a line that was logged.
+-- connect; the beginning of a turn, with the account of the session and its ports before and after; a session that is to
+-- rest, and whether it does; ports that were retired, with how their session ended; and a line that was logged.
 pub data SystemCall (P : Type 0) : Type 0 where
   Polls : (may_block : Bool) → (woken : List ℕ) → (orders : Orders) → SystemCall P
   Shows : (ports : P) → (status : SessionStatus) → SystemCall P
   Accepts : (place : ℕ) → (came : Bool) → SystemCall P
   Connects : (place : ℕ) → (connect : Connect P) → SystemCall P
-  BeginsTurn : (place : ℕ) → (before after : P) → SystemCall P
+  BeginsTurn : (place : ℕ) → (account : Account) → (before after : P) → SystemCall P
   Rests : (place : ℕ) → (ports : P) → (rests : Bool) → SystemCall P
   Retires : (place : ℕ) → (ports : P) → (end : SessionEnd) → SystemCall P
   Notifies : (notice : Notice) → SystemCall P
@@ -55,7 +56,7 @@ is_about place (Polls may_block woken orders) = is_among place woken
 is_about place (Shows ports status) = false
 is_about place (Accepts other came) = other == place
 is_about place (Connects other connect) = other == place
-is_about place (BeginsTurn other before after) = other == place
+is_about place (BeginsTurn other account before after) = other == place
 is_about place (Rests other ports rests) = other == place
 is_about place (Retires other ports end) = other == place
 is_about place (Notifies notice) = false

@@ -5,7 +5,7 @@
 //!
 //! ```text
 //! accept --true--> pending connect --Ready--> a session's ports --over--> retire
-//!                                  `-Failed-> CannotReach is logged, and the run goes on
+//!                                  `-Failed-> the place is free, and the run goes on
 //! ```
 
 ghost use Rattle.std.specs.Prelude.{◌≡◌, ℕ, List};
@@ -38,9 +38,6 @@ pub enum Connect<P> {
 /// A log line for the operator. The run continues.
 #[derive(Clone, Copy, Debug, PartialEq, Eq, Error)]
 pub enum Notice {
-    /// A bot can't be served, since the server can't be reached.
-    #[error("cannot reach the server")]
-    CannotReach,
     /// A session used all its turns, and was ended.
     #[error("turns spent")]
     TurnsSpent,
@@ -132,11 +129,13 @@ pub trait System<P: Ports> {
     fn connected(&mut self, place: usize) -> Connect<P>
         ensures { transition self.old (Connects place result) self.new };
 
-    /// Begins a turn of the session at a place, with these ports. It does what the ports have to do once a turn, such as
-    /// writing bytes that were held for too long, and reading a deadline. So the calls of the ports only return results.
-    fn begin_turn(&mut self, place: usize, ports: &mut P)
+    /// Begins a turn of the session at a place, with its account before the turn and its ports. It does what the ports
+    /// have to do once a turn, such as writing bytes that were held for too long, and reading a deadline. So the calls of
+    /// the ports only return results. By the account it may have the ports stop the session, such as one of which too many
+    /// messages were refused.
+    fn begin_turn(&mut self, place: usize, account: &Account, ports: &mut P)
         ensures ports { P.transition ports.old TurnBegins ports.new }
-        ensures system { transition self.old (BeginsTurn place ports.old ports.new) self.new };
+        ensures system { transition self.old (BeginsTurn place account.now ports.old ports.new) self.new };
 
     /// Has the session at a place rest, whose last turn made no progress: returns true if nothing may be done at once for
     /// its ports. Then a later poll names the place once there is something to do.

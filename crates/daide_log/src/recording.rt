@@ -13,6 +13,7 @@ use daide_frame::Side;
 use daide_io::ports::{ClockEvent, Ports, Pull, Put};
 use daide_io::system::System;
 use daide_log_lines::event_line::MOST;
+use daide_protocol::account::Account;
 use std::marker::Model;
 
 /// Whether bytes move between the two sides, by what the ports returned last.
@@ -104,14 +105,21 @@ impl<P: Ports, W: Sink + Drop> Recording<P, W> {
         }
     }
 
-    /// Has the system begin a turn of the session at a place with the inner ports, at this time. The record is unchanged.
-    pub fn begin_turn<S: System<P>>(&mut self, place: usize, system: &mut S, now: Option<Moment>)
+    /// Has the system begin a turn of the session at a place, with the session's account and the inner ports, at this
+    /// time. The record is unchanged.
+    pub fn begin_turn<S: System<P>>(
+        &mut self,
+        place: usize,
+        account: &Account,
+        system: &mut S,
+        now: Option<Moment>,
+    )
         ensures begins { Records P.transition (HasFailed W.Fails) self.old TurnBegins self.new }
         ensures time { self.new.present ≡ now }
-        ensures asked { S.transition system.old (BeginsTurn place self.old.ports self.new.ports) system.new }
+        ensures asked { S.transition system.old (BeginsTurn place account.now self.old.ports self.new.ports) system.new }
     {
         self.present = now;
-        system.begin_turn(place, &mut self.ports);
+        system.begin_turn(place, account, &mut self.ports);
     }
 
     /// Records the time that is due, if one is.

@@ -1,7 +1,7 @@
 -- The account of a session, worked out from the protocol: each kind of effect, for each side, and the level that it
 -- leaves.
-use Rattle.daide_protocol.proofs.Common.{◌≡◌, ℕ, ◌+◌, ◌*◌, ◌%◌, ◌^◌, List, [], ◌∷◌, length, refl, Some, class_of, bra}
-use Rattle.daide_protocol.proofs.Common.{bytes_of_tokens, Side, Bot, Server, Head, Im, Rm, Dm, Fm, Code, head_bytes}
+use Rattle.daide_protocol.proofs.Common.{◌≡◌, ℕ, ◌+◌, ◌*◌, ◌%◌, ◌^◌, List, [], ◌∷◌, length, refl, Some, None, class_of}
+use Rattle.daide_protocol.proofs.Common.{bra, bytes_of_tokens, Side, Bot, Server, Head, Im, Rm, Dm, Fm, Code, head_bytes}
 use Rattle.daide_protocol.proofs.Common.{parse_head, is_alien, first_items, last_items, im_of, Level, L0, L20, L30, L60}
 use Rattle.daide_protocol.proofs.Common.{entries, may_end_of, table_answer, Account, Unknown, Deed, Note, Phase}
 use Rattle.daide_protocol.proofs.Common.{effect_accounted, accounted, summary_of, answer_bytes, Event, Ends, Loses}
@@ -15,9 +15,16 @@ use Rattle.daide_protocol.proofs.SomeRun.{in_phase, outcome_of}
 abbrev counts : ℕ → ℕ → ℕ → SideCounts
 counts relayed prn huh = record { relayed = relayed; prn = prn; huh = huh }
 
--- the bot's counts, the server's, the faults and the level; the name has facts of its own
+-- the bot's counts, the server's, the faults and the level; the name and the power have facts of their own
 abbrev of : SideCounts → SideCounts → ℕ → Level → Account
-of bot server faults level = record { bot = bot; server = server; faults = faults; level = level; name = Unknown }
+of bot server faults level = record {
+  bot = bot;
+  server = server;
+  faults = faults;
+  level = level;
+  name = Unknown;
+  power = None;
+}
 
 -- ---- one effect
 

@@ -1,6 +1,6 @@
 -- The limits that an operator may set, at their ends and over the whole range around them. Worked out from the
 -- documents, so that another number in a definition does not check.
-use Rattle.daide_protocol.proofs.Common.{◌≡◌, ℕ, zero, suc, ◌+◌, List, [], ◌++◌, map, replicate, refl, Result, Ok, Err}
+use Rattle.daide_protocol.proofs.Common.{◌≡◌, ℕ, zero, suc, List, [], ◌++◌, map, replicate, refl, Result, Ok, Err}
 use Rattle.daide_protocol.proofs.Common.{range_with_len}
 use Rattle.daide_grammar.specs.Bounds.{cells_bound}
 use Rattle.daide_protocol.specs.Bounds.{greatest_depth, longest_body}

@@ -1,8 +1,9 @@
--- What a bot calls itself, worked out from the protocol: each kind of message that may have a name, from each side, and
--- the text of a name.
+-- What a bot calls itself, and the power that its server gives it, worked out from the protocol: each kind of message
+-- that may have a name or a power, from each side, and the text of a name and of a power.
 use Rattle.std.specs.List.{repeat}
 use Rattle.std.specs.Fmt.{digits}
-use Rattle.daide_protocol.proofs.Common.{◌≡◌, ℕ, ◌*◌, List, [], ◌∷◌, ◌++◌, length, map, refl, Some, codes, class_of}
+use Rattle.daide_protocol.proofs.Common.{◌≡◌, ℕ, ◌*◌, List, [], ◌∷◌, ◌++◌, length, map, refl, Option, Some, None}
+use Rattle.daide_protocol.proofs.Common.{codes, class_of, hlo}
 use Rattle.daide_protocol.proofs.Common.{text_with, bra, bytes_of_tokens, ket, Side, Bot, Server, Im, Rm, Dm, Fm, Em}
 use Rattle.daide_protocol.proofs.Common.{head_bytes, parse_head, is_alien, first_items, last_items, L0, L60, entries}
 use Rattle.daide_protocol.proofs.Common.{may_end_of, table_answer, Account, BotName, Unknown, Nme, Iam, accounted}
@@ -11,7 +12,9 @@ use Rattle.daide_protocol.proofs.Common.{name_after, name_text, nme, bytes_come,
 use Rattle.daide_token.specs.Names.{name_of, names, token_named}
 use Rattle.daide_protocol.specs.declared.note.Deed.TheVariants.{Relayed, Dropped, Prn, Huh}
 use Rattle.daide_protocol.specs.declared.phase.Phase.TheVariants.{Open}
-use Rattle.daide_protocol.specs.AccountText.{account_text, name_part, rest_text, side_text}
+use Rattle.daide_protocol.specs.AccountText.{account_text, name_part, power_part, rest_text, side_text}
+use Rattle.daide_protocol.specs.Power.{of_token, power_after, yes}
+use Rattle.daide_protocol.specs.declared.power.Power.{Power}
 use Rattle.daide_protocol.proofs.SomeRun.{in_phase, outcome_of}
 
 -- NME and IAM by their names in the token table
@@ -77,6 +80,90 @@ other_frames : (name : BotName) (place : ℕ) →
     × (name_after Dm Bot Relayed [] name ≡ name)
 other_frames name place = (refl, refl, refl, refl, refl, refl, refl, refl, refl, refl)
 
+-- ---- the power
+
+abbrev aus : ℕ
+aus = 0x4100
+
+-- UNO, which an observer's HLO has in place of a power
+abbrev uno : ℕ
+uno = 0x490B
+
+-- YES, REJ and HLO by their names in the token table
+answers_of_server : (token_named (codes "YES") ≡ Some yes) × (token_named (codes "REJ") ≡ Some 0x4814)
+    × (token_named (codes "HLO") ≡ Some hlo) × (token_named (codes "UNO") ≡ Some uno)
+unfolding token_named names
+answers_of_server = (refl, refl, refl, refl)
+
+-- HLO ( who ) ( 1234 ) ( ( LVL 20 ) )
+abbrev hlo_of : ℕ → List ℕ
+hlo_of who =
+    hlo ∷ bra ∷ who ∷ ket ∷ bra ∷ 1234 ∷ ket ∷ bra ∷ bra ∷ 0x4903 ∷ 20 ∷ ket ∷ ket ∷ []
+
+-- IAM ( power ) ( 12 )
+abbrev iam_of : ℕ → List ℕ
+iam_of power = iam ∷ bra ∷ power ∷ ket ∷ bra ∷ 12 ∷ ket ∷ []
+
+-- an answer of the server: this command, and a request in brackets
+abbrev answer_of : ℕ → List ℕ → List ℕ
+answer_of command request = command ∷ bra ∷ request ++ ket ∷ []
+
+-- the power of a bot in an open session, after these bytes from a side
+abbrev power_by : Side → List ℕ → Option Power
+power_by side bytes =
+    (accounted L60 (outcome_of open_session (bytes_come side bytes)).effects nothing_accounted).power
+
+-- The server's HLO has the power, listed or not, and with the fewest options; an observer's has UNO. So has its YES to an
+-- IAM, and no other answer.
+said_by_server :
+    (power_by Server (dm (hlo_of eng)) ≡ Some (of_token eng))
+    × (power_by Server (dm (hlo_of 0x4107)) ≡ Some (of_token 0x4107))
+    × (power_by Server (dm (hlo_of uno)) ≡ Some (of_token uno))
+    × (power_by Server (dm (hlo ∷ bra ∷ eng ∷ ket ∷ bra ∷ 0 ∷ ket ∷ bra ∷ ket ∷ [])) ≡ Some (of_token eng))
+    × (power_by Server (dm (answer_of yes (iam_of aus))) ≡ Some (of_token aus))
+    × (power_by Server (dm (answer_of yes (0x480F ∷ []))) ≡ None)
+    × (power_by Server (dm (answer_of yes (nme_of (codes "Al") []))) ≡ None)
+    × (power_by Server (dm (answer_of 0x4814 (iam_of aus))) ≡ None)
+    × (power_by Server (dm (0x4810 ∷ [])) ≡ None)
+unfolding last_items first_items parse_head is_alien entries may_end_of table_answer class_of answer_bytes head_bytes
+said_by_server = (refl, refl, refl, refl, refl, refl, refl, refl, refl)
+
+-- An HLO without its list of options, one that is a token too long, and one with open brackets have none: they get HUH and PRN. Nor
+-- has an HLO, an IAM or a YES of the bot.
+not_said :
+    (power_by Server (dm (hlo ∷ bra ∷ eng ∷ ket ∷ bra ∷ 1234 ∷ ket ∷ [])) ≡ None)
+    × (power_by Server (dm (hlo_of eng ++ 0x4803 ∷ [])) ≡ None)
+    × (power_by Server (dm (hlo ∷ bra ∷ eng ∷ [])) ≡ None)
+    × (power_by Server (dm (hlo ∷ [])) ≡ None)
+    × (power_by Server (dm (answer_of yes (iam ∷ bra ∷ aus ∷ ket ∷ []))) ≡ None)
+    × (power_by Bot (dm (hlo_of eng)) ≡ None)
+    × (power_by Bot (dm (hlo ∷ [])) ≡ None)
+    × (power_by Bot (dm (iam_of aus)) ≡ None)
+    × (power_by Bot (dm (answer_of yes (iam_of aus))) ≡ None)
+unfolding last_items first_items parse_head is_alien entries may_end_of table_answer class_of answer_bytes head_bytes
+not_said = (refl, refl, refl, refl, refl, refl, refl, refl, refl)
+
+-- of several the last one that was relayed counts
+last_power_counts :
+    (power_by Server (dm (hlo_of eng) ++ dm (hlo_of aus)) ≡ Some (of_token aus))
+    × (power_by Server (dm (hlo_of eng) ++ dm (answer_of yes (iam_of aus))) ≡ Some (of_token aus))
+    × (power_by Server (dm (answer_of yes (iam_of aus)) ++ dm (hlo_of uno)) ≡ Some (of_token uno))
+    × (power_by Server (dm (hlo_of eng) ++ dm (hlo_of aus ++ 0x4803 ∷ [])) ≡ Some (of_token eng))
+    × (power_by Server (dm (hlo_of eng) ++ dm (answer_of 0x4814 (iam_of aus))) ≡ Some (of_token eng))
+unfolding last_items first_items parse_head is_alien entries may_end_of table_answer class_of answer_bytes head_bytes
+last_power_counts = (refl, refl, refl, refl, refl)
+
+-- only a relayed message of the server changes the power
+other_frames_keep_power : (power : Option Power) (place : ℕ) →
+    let tokens = hlo_of eng in
+    (power_after Dm Server Relayed tokens power ≡ Some (of_token eng))
+    × (power_after Dm Bot Relayed tokens power ≡ power) × (power_after Dm Server Prn tokens power ≡ power)
+    × (power_after Dm Server (Huh place) tokens power ≡ power) × (power_after Dm Server Dropped tokens power ≡ power)
+    × (power_after Im Server Relayed tokens power ≡ power) × (power_after Rm Server Relayed tokens power ≡ power)
+    × (power_after Fm Server Relayed tokens power ≡ power) × (power_after Em Server Relayed tokens power ≡ power)
+    × (power_after Dm Server Relayed [] power ≡ power)
+other_frames_keep_power power place = (refl, refl, refl, refl, refl, refl, refl, refl, refl, refl)
+
 -- ---- what is kept
 
 -- a text ends before its bracket, and may be empty; a byte above 127 is kept as it is
@@ -117,6 +204,7 @@ account_of = record {
   faults = 4;
   level = L60;
   name = Unknown;
+  power = None;
 }
 
 texts_of_accounts :
@@ -125,5 +213,9 @@ texts_of_accounts :
     ≡ codes "bot 5 relayed 1 prn 0 huh; server 7 relayed 2 prn 3 huh; 4 faults; level 60; NME 'Albert'")
     × (account_text (record account_of { name = Iam eng })
     ≡ codes "bot 5 relayed 1 prn 0 huh; server 7 relayed 2 prn 3 huh; 4 faults; level 60; IAM ENG")
-unfolding account_text side_text rest_text name_part text_with name_of names digits
-texts_of_accounts = (refl, refl, refl)
+    × (account_text (record account_of { name = Nme (kept (codes "Albert")); power = Some (of_token aus) })
+    ≡ codes "bot 5 relayed 1 prn 0 huh; server 7 relayed 2 prn 3 huh; 4 faults; level 60; NME 'Albert'; power AUS")
+    × (account_text (record account_of { power = Some (of_token 0x4107) })
+    ≡ codes "bot 5 relayed 1 prn 0 huh; server 7 relayed 2 prn 3 huh; 4 faults; level 60; power #4107")
+unfolding account_text side_text rest_text name_part power_part text_with name_of names digits
+texts_of_accounts = (refl, refl, refl, refl, refl)

@@ -2,7 +2,7 @@
 use Rattle.std.proofs.Common.{◌/◌, slice_index_or}
 use Rattle.daide_protocol.proofs.Common.{◌≡◌, ℕ, ◌+◌, ◌*◌, ◌%◌, ◌<◌, ◌≤◌, Bool, true, false, cond, nat_lt, List, []}
 use Rattle.daide_protocol.proofs.Common.{◌∷◌, ◌++◌, take, map, codes, refl, sym, ap, ◌∙◌, arith, append-nil, nat_tests}
-use Rattle.daide_protocol.proofs.Common.{text_with, token_bytes, tokens_of, Nme, Iam, NameText, token_of_character, iam}
+use Rattle.daide_protocol.proofs.Common.{text_with, token_bytes, tokens_of, Nme, NameText, token_of_character, iam}
 use Rattle.daide_protocol.proofs.Common.{name_text, nme}
 use Rattle.daide_token.specs.TextSteps.{end_text, place_after, place_past, some_text, token_text}
 use Rattle.daide_token.specs.declared.text.PrinterState.{PrinterState}
@@ -22,15 +22,12 @@ iam_bytes command pair power first second =
     ∙ (ap (λ (c : List ℕ). tokens_of (0x48 ∷ 0x07 ∷ slice_index_or c 0 0 ∷ slice_index_or c 1 0 ∷ [])) second
     ∙ ap (λ (t : ℕ). iam ∷ t ∷ []) (halves power))
 
-pub iam_text : (power : ℕ) (tokens front ending whole : List ℕ) (place : PrinterState) → tokens ≡ iam ∷ power ∷ [] →
-    front ≡ some_text [] Start tokens → place ≡ place_past Start tokens → ending ≡ end_text place →
-    whole ≡ front ++ ending → whole ≡ name_text (Iam power)
-iam_text power tokens front ending whole place same text at last e =
+pub whole_text : (tokens front ending whole : List ℕ) (place : PrinterState) → front ≡ some_text [] Start tokens →
+    place ≡ place_past Start tokens → ending ≡ end_text place → whole ≡ front ++ ending → whole ≡ text_with [] tokens
+whole_text tokens front ending whole place text at last e =
     e
     ∙ (ap (λ (l : List ℕ). l ++ ending) text
-    ∙ (ap (λ (l : List ℕ). some_text [] Start tokens ++ l) (last ∙ ap end_text at)
-    ∙ (sym (text_by_parts [] tokens)
-    ∙ (ap (text_with []) same ∙ sym (append-nil (text_with [] (iam ∷ power ∷ [])))))))
+    ∙ (ap (λ (l : List ℕ). some_text [] Start tokens ++ l) (last ∙ ap end_text at) ∙ sym (text_by_parts [] tokens)))
 
 -- NME with these characters
 pub nme_text : (tokens characters first front ending whole : List ℕ) (p q : PrinterState) → tokens ≡ nme ∷ [] →

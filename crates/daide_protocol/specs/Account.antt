@@ -1,5 +1,5 @@
 -- The account of a session: what was done with the frames of each side, the faults, the level of press that was last in
--- force, and what the bot calls itself. What is counted, and that it is counted modulo 2^64, is (own); the level is by
+-- force, what the bot calls itself, and the power that it plays. What is counted, and that it is counted modulo 2^64, is (own); the level is by
 -- docs/PROTOCOL.md, "The session".
 use Rattle.std.specs.Prelude.{ℕ, ◌+◌, ◌%◌, ◌^◌, List, [], ◌∷◌, drop, Option, Some, None}
 use Rattle.daide_token.specs.Token.{tokens_of}
@@ -20,6 +20,7 @@ use Rattle.daide_protocol.specs.declared.note.Note.{Note}
 use Rattle.daide_protocol.specs.declared.note.Note.TheVariants as Notes
 use Rattle.daide_protocol.specs.declared.summary.Summary.{Summary}
 use Rattle.daide_protocol.specs.BotName.{name_after}
+use Rattle.daide_protocol.specs.Power.{power_after}
 use Rattle.daide_protocol.specs.HloLevel.{level_reported}
 use Rattle.daide_protocol.specs.Machine.{Sent, Effect}
 use Rattle.daide_protocol.specs.Summary.{one_more}
@@ -39,7 +40,7 @@ side_count Counters.Huh c = c.huh
 
 -- the account of a session without any effect
 abbrev pub nothing_accounted : Account
-nothing_accounted = record { bot = no_frames; server = no_frames; faults = 0; level = L0; name = Unknown }
+nothing_accounted = record { bot = no_frames; server = no_frames; faults = 0; level = L0; name = Unknown; power = None }
 
 -- ---- one more effect
 
@@ -64,6 +65,7 @@ frame_accounted top Bot kind deed tokens a = record {
   faults = a.faults;
   level = level_after top kind Bot deed tokens a.level;
   name = name_after kind Bot deed tokens a.name;
+  power = power_after kind Bot deed tokens a.power;
 }
 frame_accounted top Server kind deed tokens a = record {
   bot = a.bot;
@@ -71,6 +73,7 @@ frame_accounted top Server kind deed tokens a = record {
   faults = a.faults;
   level = level_after top kind Server deed tokens a.level;
   name = name_after kind Server deed tokens a.name;
+  power = power_after kind Server deed tokens a.power;
 }
 
 -- the account after one more fault
@@ -81,6 +84,7 @@ fault_accounted a = record {
   faults = one_more a.faults;
   level = a.level;
   name = a.name;
+  power = a.power;
 }
 
 -- a frame belongs to the side that the sent frame answers

@@ -1,5 +1,5 @@
 -- The text of an account, as the line of an ended session has it. (own)
-use Rattle.std.specs.Prelude.{ℕ, ◌++◌, List, [], codes}
+use Rattle.std.specs.Prelude.{ℕ, ◌++◌, List, [], Option, Some, None, codes}
 use Rattle.std.specs.List.{flat_map}
 use Rattle.std.specs.Fmt.{decimal}
 use Rattle.daide_grammar.specs.Level.{level_number}
@@ -10,7 +10,9 @@ use Rattle.daide_protocol.specs.declared.account.SideCounts.{SideCounts}
 use Rattle.daide_protocol.specs.declared.bot_name.BotName.{BotName}
 use Rattle.daide_protocol.specs.declared.bot_name.BotName.TheVariants.{Unknown, Nme, Iam}
 use Rattle.daide_protocol.specs.Account.{all_counters, side_count}
+use Rattle.daide_protocol.specs.declared.power.Power.{Power}
 use Rattle.daide_protocol.specs.BotName.{name_text}
+use Rattle.daide_protocol.specs.Power.{power_text}
 
 -- the name of a counter in texts
 abbrev pub counter_name : Counter → List ℕ
@@ -29,10 +31,16 @@ name_part Unknown = []
 name_part (Nme text) = codes "; " ++ name_text (Nme text)
 name_part (Iam power) = codes "; " ++ name_text (Iam power)
 
--- the faults, the level and the name
+-- a power after the name; nothing if the server has said none
+unfoldable pub power_part : Option Power → List ℕ
+power_part None = []
+power_part (Some power) = codes "; power " ++ power_text power
+
+-- the faults, the level, the name and the power
 unfoldable pub rest_text : Account → List ℕ
 rest_text a =
     codes "; " ++ decimal a.faults ++ codes " faults; level " ++ decimal (level_number a.level) ++ name_part a.name
+    ++ power_part a.power
 
 -- the counts of both sides, and the rest
 unfoldable pub account_text : Account → List ℕ

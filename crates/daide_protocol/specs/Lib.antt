@@ -6,6 +6,7 @@ pub mod Machine
 pub mod Config
 pub mod Summary
 pub mod BotName
+pub mod Power
 pub mod Account
 pub mod AccountText
 pub mod Wires

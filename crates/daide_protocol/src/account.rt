@@ -1,10 +1,12 @@
 //! The account of a session: its effects, counted by side, the level of press that was last in force, what the bot
-//! calls itself, and the text of these.
+//! calls itself, the power that it plays, and the text of these.
 
 ghost use Rattle.std.specs.Prelude.{◌≡◌, ℕ, List, Some};
 ghost use Rattle.daide_token.specs.Token.{tokens_of};
-ghost use Rattle.daide_protocol.specs.AccountText.{account_text, counter_name, name_part, rest_text, side_text};
+ghost use Rattle.daide_protocol.specs.AccountText.{account_text, counter_name, name_part, power_part};
+ghost use Rattle.daide_protocol.specs.AccountText.{rest_text, side_text};
 ghost use Rattle.daide_protocol.specs.BotName.{name_after};
+ghost use Rattle.daide_protocol.specs.Power.{power_after};
 ghost use Rattle.daide_protocol.specs.HloLevel.{lvl_scan_of};
 ghost use Rattle.daide_protocol.specs.Account.{side_count, no_frames, nothing_accounted, frame_counted, frame_accounted};
 ghost use Rattle.daide_protocol.specs.Account.{fault_accounted, summary_of, level_after as next_level};
@@ -12,6 +14,7 @@ ghost use Rattle.daide_protocol.specs.Account.{fault_accounted, summary_of, leve
 use crate::bot_name::BotName;
 use crate::hlo::{LvlScan, level_reported};
 use crate::note::Deed;
+use crate::power::Power;
 use crate::summary::Summary;
 use daide_frame::{Kind, Side};
 use daide_grammar::Level;
@@ -36,7 +39,8 @@ pub struct SideCounts {
     pub huh: u64,
 }
 
-/// The counts of each side, the faults, the level of press that was last in force, and what the bot calls itself.
+/// The counts of each side, the faults, the level of press that was last in force, what the bot calls itself, and the
+/// power that it plays.
 #[derive(Clone, Copy, Debug, PartialEq, Eq)]
 pub struct Account {
     /// The frames from the bot.
@@ -49,6 +53,8 @@ pub struct Account {
     pub level: Level,
     /// The name of the bot, by the last NME or IAM of it that was relayed.
     pub name: BotName,
+    /// The power of the bot, by the last HLO, or YES to an IAM, of the server that was relayed.
+    pub power: Option<Power>,
 }
 
 impl Counter {
@@ -135,15 +141,19 @@ impl Account {
             faults: 0,
             level: Level::L0,
             name: BotName::Unknown,
+            power: None,
         }
     }
 
-    /// Counts one frame of a side by what was done with it, and records the level after it. It leaves the name to
-    /// `record_name`.
+    /// Counts one frame of a side by what was done with it, and records the level after it. It leaves the name and the
+    /// power to `record_message`.
     #[inline(always)]
     pub fn count_frame(&mut self, top: Level, side: Side, kind: Kind, deed: Deed, found: LvlScan)
         ensures { (tokens : List ℕ) → found ≡ lvl_scan_of tokens →
-            self.new ≡ record (frame_accounted top side kind deed tokens self.old) { name = self.old.name } }
+            self.new ≡ record (frame_accounted top side kind deed tokens self.old) {
+              name = self.old.name;
+              power = self.old.power;
+            } }
     {
         self.level = level_after(top, kind, side, deed, found, self.level);
         match side {
@@ -152,17 +162,23 @@ impl Account {
         }
     }
 
-    /// Records the name after one frame of a side with this body, by what was done with it: an NME or IAM of the bot
-    /// that was relayed has one.
+    /// Records the name and the power after one frame of a side with this body, by what was done with it: an NME or IAM
+    /// of the bot that was relayed has a name, and an HLO, or a YES to an IAM, of the server a power.
     #[inline(always)]
-    pub fn record_name(&mut self, side: Side, kind: Kind, deed: Deed, body: &[u8])
-        ensures { self.new
-            ≡ record self.old { name = name_after kind side deed (tokens_of body.now) self.old.name } }
+    pub fn record_message(&mut self, side: Side, kind: Kind, deed: Deed, body: &[u8])
+        ensures { self.new ≡ record self.old {
+          name = name_after kind side deed (tokens_of body.now) self.old.name;
+          power = power_after kind side deed (tokens_of body.now) self.old.power;
+        } }
     {
-        if let (Kind::Dm, Side::Bot, Deed::Relayed) = (kind, side, deed)
-            && let Some(name) = BotName::in_message(body)
-        {
-            self.name = name;
+        match (kind, side, deed) {
+            (Kind::Dm, Side::Bot, Deed::Relayed) => {
+                self.name = BotName::in_message(body).unwrap_or(self.name);
+            }
+            (Kind::Dm, Side::Server, Deed::Relayed) => {
+                self.power = Power::in_message(body).or(self.power);
+            }
+            _ => {}
         }
     }
 
@@ -220,6 +236,24 @@ impl fmt::Display for NamePart {
     }
 }
 
+/// The power of a bot as it follows the name; nothing if the server has said none.
+#[derive(Clone, Copy)]
+struct PowerPart {
+    power: Option<Power>,
+}
+
+impl fmt::Display for PowerPart {
+    ghost output = { λ part. Some (power_part part.power) };
+
+    #[tactic(auto, unfolding(crate::specs::AccountText::power_part))]
+    fn fmt<W: fmt::Write>(&self, f: &mut fmt::Formatter<W>) -> fmt::Result {
+        match self.power {
+            None => Ok(()),
+            Some(power) => write!(f, "; power {power}"),
+        }
+    }
+}
+
 /// What follows the counts of the sides in the text of an account.
 #[derive(Clone, Copy)]
 struct AccountRest {
@@ -233,17 +267,21 @@ impl fmt::Display for AccountRest {
     fn fmt<W: fmt::Write>(&self, f: &mut fmt::Formatter<W>) -> fmt::Result {
         let faults = self.account.faults;
         let level = self.account.level.number();
-        let part = NamePart {
+        let name = NamePart {
             name: self.account.name,
         };
-        write!(f, "; {faults} faults; level {level}{part}")
+        let power = PowerPart {
+            power: self.account.power,
+        };
+        write!(f, "; {faults} faults; level {level}{name}{power}")
     }
 }
 
 impl fmt::Display for Account {
     ghost output = { λ account. Some (account_text account) };
 
-    /// Writes the counts of each side, the faults, the level, and the name of the bot if it has said one.
+    /// Writes the counts of each side, the faults, the level, the name of the bot if it has said one, and its power if
+    /// the server has said one.
     #[tactic(auto, unfolding(crate::specs::AccountText::account_text))]
     fn fmt<W: fmt::Write>(&self, f: &mut fmt::Formatter<W>) -> fmt::Result {
         let bot = self.bot;

@@ -2,6 +2,7 @@
 
 ghost use Rattle.std.specs.Prelude.{◌≡◌, ◌+◌, ◌≤◌, ◌*◌, ◌++◌, [], length, take, map, Some};
 ghost use Rattle.daide_token.specs.Token.{tokens_of};
+ghost use Rattle.daide_token.specs.Text.{text_with};
 ghost use Rattle.daide_token.specs.TextSteps.{some_text, place_past};
 ghost use Rattle.daide_protocol.specs.BotName.{characters, kept, most_kept, name_in, token_of_character, name_text, text_room};
 
@@ -12,7 +13,7 @@ use std::{fmt, str};
 const NME: u16 = 0x480C;
 
 /// IAM ( power ) ( passcode ).
-const IAM: u16 = 0x4807;
+pub(crate) const IAM: u16 = 0x4807;
 
 /// The category of characters.
 const CHARACTERS: u8 = 0x4B;
@@ -149,6 +150,16 @@ fn put(bytes: &[u8], line: &mut [u8], len: usize) -> usize
     end
 }
 
+/// Writes the text of some tokens.
+pub(crate) fn put_whole(tokens: &[u8], line: &mut [u8]) -> usize
+    requires { 4 * length tokens.now + 1 ≤ length line.old }
+    ensures text { take result line.new ≡ text_with [] (tokens_of tokens.now) }
+    ensures len { result ≤ 4 * length tokens.now + 1 }
+{
+    let printed = put_tokens(&[], tokens, line, START);
+    put(end_of(printed.place), line, printed.len)
+}
+
 /// Appends characters to the text in a line.
 fn put_characters(characters: &[u8], line: &mut [u8], from: Printed) -> Printed
     requires { from.len + 8 * length characters.now ≤ length line.old }
@@ -174,8 +185,7 @@ fn put_power(power: Token, line: &mut [u8]) -> usize
 {
     let [command, code] = IAM.to_be_bytes();
     let [high, low] = power.to_be();
-    let printed = put_tokens(&[], &[command, code, high, low], line, START);
-    put(end_of(printed.place), line, printed.len)
+    put_whole(&[command, code, high, low], line)
 }
 
 impl fmt::Display for BotName {

@@ -2,7 +2,7 @@
 //! code.
 //!
 //! `specs/` has the definitions, in the order Bounds, Events, Answers, HloLevel, Machine, Config, Summary, BotName,
-//! Account, AccountText, Wires, Counts, Weight, Calls, Heard, Fates, Ended, Passing, Harm, Laws.
+//! Power, Account, AccountText, Wires, Counts, Weight, Calls, Heard, Fates, Ended, Passing, Harm, Laws.
 //!
 //! The code makes decisions; its only state is the scan of an HLO and the counts of effects. `transitions` and `hlo`
 //! implement the machine's tables, and `answers` has the fixed tokens of an answer. So the proofs of a session and of
@@ -20,6 +20,7 @@ mod law_facts;
 pub mod laws;
 pub mod note;
 pub mod phase;
+pub mod power;
 pub mod summary;
 pub mod transitions;
 
@@ -30,4 +31,5 @@ pub use config::{Config, ConfigError, SessionLimits};
 pub use ending::Ending;
 pub use note::{Deed, Note};
 pub use phase::{Phase, SessionPhase};
+pub use power::Power;
 pub use summary::Summary;

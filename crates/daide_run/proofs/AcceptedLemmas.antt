@@ -16,7 +16,7 @@ module _ {P S : Type 0} (to_give taken : S → Option (List ℕ)) (calls : S →
   one (Connects place (Ready ports)) old new h = let e = h.3 in omega (arith, e)
   one (Connects place Failed) old new h = let e = h.3 in omega (arith, e)
   one (Connects place Pending) old new h = let e = h.1 in omega (arith, e)
-  one (BeginsTurn place before after) old new h = let e = ap (λ (s : RunSockets S). s.came) h in omega (arith, e)
+  one (BeginsTurn place account before after) old new h = let e = ap (λ (s : RunSockets S). s.came) h in omega (arith, e)
   one (Rests place ports rests) old new h = let e = ap (λ (s : RunSockets S). s.came) h in omega (arith, e)
   one (Retires place ports end) old new h = let e = h.1 in omega (arith, e)
   one (Notifies notice) old new h = let e = ap (λ (s : RunSockets S). s.came) h in omega (arith, e)

@@ -37,10 +37,10 @@ free_there (suc count) (suc key) = free_there count key
 -- no row of a new table is taken
 pub none_taken : (table : Table) (places : ℕ) → table ≡ new_table places 256 → AreRowsOf table []
 none_taken table places e = subst (λ (t : Table). AreRowsOf t []) (sym e) (record {
-  taken = λ key. free_there (2 * places + 6 + 256) key;
+  taken = λ key. free_there (2 * places + 10 + 256) key;
   beyond = λ key lt. refl;
-  count = length-replicate (2 * places + 6 + 256) free_row
-      ∙ sym (ap (λ (n : ℕ). 2 * n + 6 + 256) (length-replicate {A = Option Instant} places None));
+  count = length-replicate (2 * places + 10 + 256) free_row
+      ∙ sym (ap (λ (n : ℕ). 2 * n + 10 + 256) (length-replicate {A = Option Instant} places None));
 })
 
 module _ {N S : Type 0} (transition : N → NetworkCall S → N → Type 0) (to_give taken : S → Option (List ℕ))

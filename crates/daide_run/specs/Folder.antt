@@ -125,7 +125,7 @@ module _ {S : Type 0} (outside : RecordEvents) where
   -- its record has by then was reported; when it is retired, its record is closed.
   abbrev pub CallRecords : RecordHead → SystemCall (Recorded (SocketPorts S)) → Type 0
   CallRecords head (Connects place connect) = BeginsOwnRecord head connect
-  CallRecords head (BeginsTurn place before after) =
+  CallRecords head (BeginsTurn place account before after) =
       EndIsReported outside.Reported before.ports.identity.number before.record_of
   CallRecords head (Rests place ports rests) = EndIsReported outside.Reported ports.ports.identity.number ports.record_of
   CallRecords head (Retires place ports end) = ClosesRecord outside ports.ports.identity.number ports.record_of

@@ -14,13 +14,13 @@ use daide_io::{Ports, System};
 use daide_log::Sink;
 use daide_settings::{Key, Settings};
 use daide_sockets::bound_sockets::{BindError, BoundSockets, bind_sockets};
-use daide_sockets::control_listener::bind_control;
+use daide_sockets::control_listener::{FolderLock, bind_control};
 use daide_sockets::os_network::OsNetwork;
 use daide_status::VERSION;
 use std::fmt::Display;
 use std::io::{ErrorKind, Write};
 use std::net::{Net, SocketAddr};
-use std::rt::{Clock, Files};
+use std::rt::Clock;
 use thiserror::Error;
 
 /// Logs where a run listens, its server, and how many sessions it serves at once.
@@ -81,7 +81,7 @@ fn fault_of(fault: BindError) -> GatewayFault
 }
 
 /// Binds the control socket, if the settings have one, and adds its listener to the network.
-fn add_control<R: Files + Clock + Net>(
+fn add_control<R: FolderLock + Clock + Net>(
     rt: &R,
     settings: &Settings,
     network: &mut OsNetwork<'_, R>,
@@ -103,7 +103,7 @@ fn add_control<R: Files + Clock + Net>(
 /// Looks up the addresses of the settings, listens at one, and creates the table of sockets. Then binds the control
 /// socket, if the settings have one. Serves no bot yet.
 #[tactic(auto, using(crate::proofs::RunLemmas::none_taken))]
-pub fn bind<'r, R: AllocGlobal + Files + Clock + Net>(
+pub fn bind<'r, R: AllocGlobal + FolderLock + Clock + Net>(
     rt: &'r R,
     settings: &Settings,
 ) -> Result<BoundSockets<'r, R>, GatewayFault>

@@ -12,6 +12,7 @@ use crate::notices::NoticeLog;
 use daide_io::duplex::Duplex;
 use daide_io::{Connect, Network, Notice, Orders, ReadyQueue, SessionEnd, SessionStatus, System};
 use daide_log::{Moment, Recording, Sink};
+use daide_protocol::account::Account;
 use daide_sockets::ports::SocketPorts;
 use daide_sockets::system::Sockets;
 use std::alloc::Allocator;
@@ -129,11 +130,12 @@ impl<'w, N: Network, R: AllocGlobal + Files, C: Clock, E: NoticeLog + Sink + Dro
     fn begin_turn(
         &mut self,
         place: usize,
+        account: &Account,
         ports: &mut Recording<SocketPorts<'w, N::Connection>, SessionFile<R::File>>,
     ) {
         let session = (place, number_of(ports));
         self.broken.report(session, ports, &mut self.sockets.errors);
-        ports.begin_turn(place, self.sockets, self.now);
+        ports.begin_turn(place, account, self.sockets, self.now);
     }
 
     /// A record may also break off in a turn that makes no progress, since it is written then.

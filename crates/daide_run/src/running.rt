@@ -20,7 +20,7 @@ use daide_log::{Recording, Sink};
 use daide_settings::{Settings, SettingsError, read_settings};
 use daide_sockets::bound_sockets::{BoundSockets, sockets_on};
 use daide_sockets::connection::Connection;
-use daide_sockets::control_listener::ControlFile;
+use daide_sockets::control_listener::{ControlFile, FolderLock};
 use daide_sockets::os_network::OsNetwork;
 use daide_sockets::ports::SocketPorts;
 use daide_sockets::system::Sockets;
@@ -68,7 +68,10 @@ pub(crate) struct SessionReports<'f, F: Files> {
 }
 
 /// Returns the file of the control socket that was bound, if the settings have one.
-fn control_file<'a, R: Files>(rt: &'a R, settings: &'a Settings) -> Option<ControlFile<'a, R>> {
+fn control_file<'a, R: FolderLock>(
+    rt: &'a R,
+    settings: &'a Settings,
+) -> Option<ControlFile<'a, R>> {
     match &settings.control {
         Some(path) => Some(ControlFile::at(rt, path.as_str())),
         None => None,
@@ -155,7 +158,7 @@ pub(crate) fn run_on<
 /// the control socket is removed at the end, if there is one.
 fn serve_sockets<
     'r,
-    R: AllocGlobal + Files + Clock + Net,
+    R: AllocGlobal + FolderLock + Clock + Net,
     F: AllocGlobal + Files,
     O: Sink,
     E: Sink,
@@ -192,7 +195,7 @@ fn serve_sockets<
 
 /// Serves with settings. If there is the path of a folder, a record of each session is kept there. `is_verbose`: whether
 /// the beginning and the end of each session are logged.
-fn serve_reported<'r, R: AllocGlobal + Files + Clock + Net, O: Sink, E: Sink>(
+fn serve_reported<'r, R: AllocGlobal + FolderLock + Clock + Net, O: Sink, E: Sink>(
     rt: &'r R,
     settings: &Settings,
     records: Option<&'r str>,
@@ -241,7 +244,7 @@ fn serve_reported<'r, R: AllocGlobal + Files + Clock + Net, O: Sink, E: Sink>(
 /// since a call of the operating system has no relation. Three causes depend on the operating system: that a name is
 /// unknown if `Name` is returned, which it never is for addresses in digits, that the address can't be listened on if
 /// `Listen` is, and that memory was refused if `Memory` is.
-pub fn run_text<'r, R: AllocGlobal + Files + Clock + Net, O: Sink, E: Sink>(
+pub fn run_text<'r, R: AllocGlobal + FolderLock + Clock + Net, O: Sink, E: Sink>(
     rt: &'r R,
     text: &str,
     records: Option<&'r str>,

@@ -41,7 +41,7 @@ module _ {N C P S : Type 0} (network : N → NetworkCall C → N → Type 0) (ti
   times_kept (Connects place Failed) old new h = same_times old new h.0
   times_kept (Connects place Pending) old new h = same_times old new h.0.0
   times_kept (Shows ports status) old new h = same_times old new h.0
-  times_kept (BeginsTurn place before after) old new h = same_times old new h.0
+  times_kept (BeginsTurn place account before after) old new h = same_times old new h.0
   times_kept (Rests place ports rests) old new h = same_times old new h.0
   times_kept (Retires place ports end) old new h = same_times old new h.0
   times_kept (Notifies notice) old new h = same_times old new h.0

@@ -1,8 +1,9 @@
--- Each turn that begins at or past the deadline of its session takes one of the timeouts that are left.
+-- Each turn that begins at or past the deadline of its session takes one of the timeouts that are left, unless a peer takes
+-- a byte late.
 use Rattle.std.proofs.Common.{◌≡◌, ◌⊎◌, ℕ, ◌+◌, ◌≤◌, Bool, true, false, List, [], ◌∷◌, refl, sym, ap, ◌∙◌, subst, arith, inl, inr, ⊎_elim}
 use Rattle.std.proofs.Common.{Option, Some, None}
-use Rattle.std.specs.Prelude.{◌||◌, not, nat_le, is_some, if◌then◌else◌}
-use Rattle.std.proofs.lemmas.Bool.{leb-true, le-leb}
+use Rattle.std.specs.Prelude.{◌||◌, ◌&&◌, not, nat_le, nat_lt, is_some, if◌then◌else◌}
+use Rattle.std.proofs.lemmas.Bool.{leb-true, le-leb, ltb-false}
 use Rattle.std.specs.Time.{instant_nanos}
 use Rattle.std.specs.declared.time.Duration.{Duration}
 use Rattle.std.specs.declared.time.Instant.{Instant}
@@ -19,7 +20,7 @@ use Rattle.daide_sockets.specs.Clock.{due_after, next_deadline, earlier, IsStall
 use Rattle.daide_sockets.specs.Timers.{SessionTimers, BeginsAt, BeginsInTime, PullsInTime, KeepsTimers, SetsTimers, is_got}
 use Rattle.daide_sockets.specs.Wakeups.{session_due}
 use Rattle.daide_run_laws.specs.FreedPlaces.{IsLater, ClockGoesOn, peer_timeouts_left, timeouts_left}
-use Rattle.daide_run_laws.specs.FreedPlaces.{is_overdue, overdue_turns, deliveries, DeadlinesPassSeldom}
+use Rattle.daide_run_laws.specs.FreedPlaces.{held_len, takes_late, is_overdue, overdue_turns, deliveries, DeadlinesPassSeldom}
 use Rattle.daide_run_laws.proofs.BegunSessions.{begun_with}
 use Rattle.daide_run_laws.proofs.TimedSessions.{PortsSetTimers, own, KeepsStall, step_stall}
 
@@ -28,6 +29,26 @@ use Rattle.daide_run_laws.proofs.TimedSessions.{PortsSetTimers, own, KeepsStall,
 at_most_one : (b : Bool) → one_if b ≤ 1
 at_most_one true = omega arith
 at_most_one false = omega arith
+
+-- what is late counts unless a byte was taken
+none_counted : (late : Bool) → one_if (late && not true) ≡ 0
+none_counted true = refl
+none_counted false = refl
+
+all_counted : (late : Bool) → one_if (late && not false) ≡ one_if late
+all_counted true = refl
+all_counted false = refl
+
+late_counted : (all bot server im bot_took server_took : Bool) → one_if all ≤ one_if bot + one_if server + one_if im →
+    one_if (all && not (bot_took || server_took))
+    ≤ one_if (bot && not bot_took) + one_if (server && not server_took) + one_if im
+late_counted all bot server im true server_took h = let none = none_counted all in omega (arith, none)
+late_counted all bot server im false true h = let none = none_counted all in omega (arith, none)
+late_counted all bot server im false false h =
+    let own = all_counted all in
+    let first = all_counted bot in
+    let second = all_counted server in
+    omega (arith, own, first, second, h)
 
 -- ---- the nearest of some moments
 
@@ -158,10 +179,10 @@ module _ {S : Type 0} where
           (λ (none : new.stalls_at ≡ None).
           let zero_left = ap (λ (m : Option Instant). one_if (is_some m)) none in omega (arith, was, is, zero_left)) after.1
 
-  -- a turn that begins at a stall timeout or past it gives the peer up
-  stall_begun : (reading : Option Instant) (old new : Socket S) → MayStall old →
-      BeginsInTime reading old new → stall_left new + one_if (is_past reading old.stalls_at) ≤ stall_left old
-  stall_begun reading old new set h = by (is_past reading old.stalls_at) refl old.stalls_at refl
+  -- a turn that begins at a stall timeout or past it gives up a peer that takes no byte
+  stall_begun : (reading : Option Instant) (old new : Socket S) → MayStall old → BeginsInTime reading old new →
+      takes_late reading old new ≡ false → stall_left new + one_if (is_past reading old.stalls_at) ≤ stall_left old
+  stall_begun reading old new set h none = by (is_past reading old.stalls_at) refl old.stalls_at refl
     where
       by : (past : Bool) → is_past reading old.stalls_at ≡ past → (moment : Option Instant) → old.stalls_at ≡ moment →
           stall_left new + one_if (is_past reading old.stalls_at) ≤ stall_left old
@@ -174,13 +195,18 @@ module _ {S : Type 0} where
           let time = time_of moment m in
           let stalled : has_stalled old.stall_time reading old.stalls_at ≡ true =
           ap (λ (t : Option Duration). has_stalled t reading old.stalls_at) time.1 ∙ e in
-          let over = h.gives_up stalled in
+          let over = h.gives_up stalled (none_taken e) in
           let is : stall_left new ≡ one_if (is_some new.stalls_at) = ap (λ (f : Bool). one_if (may_stall f new.stalls_at)) over.0 in
           let zero_left = ap (λ (x : Option Instant). one_if (is_some x)) over.1 in
           let one = ap one_if e in
           let was = held old.stream.has_failed moment m in
           omega (arith, is, zero_left, one, was)
         where
+          none_taken : is_past reading old.stalls_at ≡ true → held_len old ≤ held_len new
+          none_taken past =
+              ltb-false (held_len new) (held_len old)
+              (ap (λ (p : Bool). p && nat_lt (held_len new) (held_len old)) (sym past) ∙ none)
+
           time_of : (moment : Instant) → old.stalls_at ≡ Some moment → (time : Duration) × (old.stall_time ≡ Some time)
           time_of moment m = ⊎_elim (λ (t : (time : Duration) × (old.stall_time ≡ Some time)). t)
               (λ (never : (old.stall_time ≡ None) × (old.stalls_at ≡ None)). let none = never.1 in absurd (cc)) set
@@ -194,22 +220,37 @@ module _ {S : Type 0} where
   peer_begun : (before now : Instant) (old_reading new_reading : Option Instant) (old new : Socket S) →
       old_reading ≡ Some before → new_reading ≡ Some now → instant_nanos before ≤ instant_nanos now →
       MayStall old → BeginsInTime new_reading old new →
-      peer_timeouts_left new_reading new + one_if (is_past new_reading (next_deadline old_reading old.stalls_at old.silent_from))
-      ≤ peer_timeouts_left old_reading old
-  peer_begun before now old_reading new_reading old new was is order set h =
-      let stalls = stall_begun new_reading old new set h in
-      let both = past_counted new_reading old.stalls_at (due_after old_reading old.silent_from) in
-      let silence : one_if (is_some (due_after new_reading new.silent_from))
-      + one_if (is_past new_reading (due_after old_reading old.silent_from))
-      ≤ one_if (is_some (due_after old_reading old.silent_from)) =
-      subst (λ (r : Option Instant). one_if (is_some (due_after r new.silent_from))
-      + one_if (is_past r (due_after old_reading old.silent_from)) ≤ one_if (is_some (due_after old_reading old.silent_from))) (sym is)
-      (subst (λ (r : Option Instant). one_if (is_some (due_after (Some now) new.silent_from))
-      + one_if (is_past (Some now) (due_after r old.silent_from)) ≤ one_if (is_some (due_after r old.silent_from))) (sym was)
-      (subst (λ (m : Option Instant). one_if (is_some (due_after (Some now) m))
-      + one_if (is_past (Some now) (due_after (Some before) old.silent_from)) ≤ one_if (is_some (due_after (Some before) old.silent_from)))
-      (sym h.kept.silent_from) (silence_left before now old.silent_from order))) in
-      omega (arith, stalls, both, silence)
+      peer_timeouts_left new_reading new + one_if (is_past new_reading (next_deadline old_reading old.stalls_at old.silent_from)
+      && not (takes_late new_reading old new)) ≤ peer_timeouts_left old_reading old
+  peer_begun before now old_reading new_reading old new was is order set h = by (takes_late new_reading old new) refl
+    where
+      is_late : Bool
+      is_late = is_past new_reading (next_deadline old_reading old.stalls_at old.silent_from)
+
+      silence : one_if (is_some (due_after new_reading new.silent_from))
+          + one_if (is_past new_reading (due_after old_reading old.silent_from))
+          ≤ one_if (is_some (due_after old_reading old.silent_from))
+      silence =
+          subst (λ (r : Option Instant). one_if (is_some (due_after r new.silent_from))
+          + one_if (is_past r (due_after old_reading old.silent_from)) ≤ one_if (is_some (due_after old_reading old.silent_from))) (sym is)
+          (subst (λ (r : Option Instant). one_if (is_some (due_after (Some now) new.silent_from))
+          + one_if (is_past (Some now) (due_after r old.silent_from)) ≤ one_if (is_some (due_after r old.silent_from))) (sym was)
+          (subst (λ (m : Option Instant). one_if (is_some (due_after (Some now) m))
+          + one_if (is_past (Some now) (due_after (Some before) old.silent_from)) ≤ one_if (is_some (due_after (Some before) old.silent_from)))
+          (sym h.kept.silent_from) (silence_left before now old.silent_from order)))
+
+      by : (took : Bool) → takes_late new_reading old new ≡ took →
+          peer_timeouts_left new_reading new + one_if (is_late && not (takes_late new_reading old new))
+          ≤ peer_timeouts_left old_reading old
+      by true e =
+          let zero_late = ap (λ (t : Bool). one_if (is_late && not t)) e ∙ none_counted is_late in
+          let stalls = stall_kept old new h.kept.failed in
+          omega (arith, zero_late, stalls, silence)
+      by false e =
+          let most = ap (λ (t : Bool). one_if (is_late && not t)) e ∙ all_counted is_late in
+          let stalls = stall_begun new_reading old new set h e in
+          let both = past_counted new_reading old.stalls_at (due_after old_reading old.silent_from) in
+          omega (arith, most, stalls, both, silence)
 
   -- a socket that was not pulled
   peer_kept : (old_reading new_reading : Option Instant) (old new : Socket S) → new_reading ≡ old_reading →
@@ -249,7 +290,9 @@ module _ {S : Type 0} where
 
   begun_left : (idle stall : Duration) (old new : SessionTimers S) → ((side : Side) → MayStall (own old side)) →
       IsLater idle stall old.sockets.reading new.sockets.reading → SetsTimers TurnBegins old new →
-      timeouts_left new + one_if (is_past new.sockets.reading (session_due old.sockets)) ≤ timeouts_left old
+      timeouts_left new + one_if (is_past new.sockets.reading (session_due old.sockets)
+      && not (takes_late new.sockets.reading old.sockets.sides.bot new.sockets.sides.bot
+      || takes_late new.sockets.reading old.sockets.sides.server new.sockets.sides.server)) ≤ timeouts_left old
   begun_left idle stall old new set later h =
       let due = λ (socket : Socket S). next_deadline old.sockets.reading socket.stalls_at socket.silent_from in
       let bot = peer_begun later.before later.now old.sockets.reading new.sockets.reading old.sockets.sides.bot new.sockets.sides.bot
@@ -262,7 +305,12 @@ module _ {S : Type 0} where
       ≤ one_if (is_some old.sockets.im_due)) (sym h.2) (once_left new.sockets.reading old.sockets.im_due) in
       let all = past_counted new.sockets.reading (earlier (due old.sockets.sides.bot) (due old.sockets.sides.server)) old.sockets.im_due in
       let peers = past_counted new.sockets.reading (due old.sockets.sides.bot) (due old.sockets.sides.server) in
-      omega (arith, bot, server, im, all, peers)
+      let late = late_counted (is_past new.sockets.reading (session_due old.sockets))
+      (is_past new.sockets.reading (due old.sockets.sides.bot)) (is_past new.sockets.reading (due old.sockets.sides.server))
+      (is_past new.sockets.reading old.sockets.im_due)
+      (takes_late new.sockets.reading old.sockets.sides.bot new.sockets.sides.bot)
+      (takes_late new.sockets.reading old.sockets.sides.server new.sockets.sides.server) (omega (arith, all, peers)) in
+      omega (arith, bot, server, im, late)
 
   clock_left : (event : ClockEvent) (old new : SessionTimers S) → SetsTimers (Clock event) old new →
       timeouts_left new ≤ timeouts_left old

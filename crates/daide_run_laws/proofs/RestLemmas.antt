@@ -158,8 +158,8 @@ module _ {P S N C : Type 0} (transition : N → NetworkCall C → N → Type 0) 
       about place (other == place) (Accepts other came) last old.1 new.1 (λ e. h.1 place l e) (λ ports e. absurd (cc)) quiet
   step old new (Connects other connect) last place l h quiet =
       about place (other == place) (Connects other connect) last old.1 new.1 (λ e. h.1.1 place l e) (λ ports e. absurd (cc)) quiet
-  step old new (BeginsTurn other before after) last place l h quiet =
-      about place (other == place) (BeginsTurn other before after) last old.1 new.1
+  step old new (BeginsTurn other account before after) last place l h quiet =
+      about place (other == place) (BeginsTurn other account before after) last old.1 new.1
       (λ e. subst (λ (t : Table). KeepsPlace old.1 place t) (sym h.1.1.table) (taken old.1 other place e)) (λ ports e. absurd (cc)) quiet
   step old new (Rests other mine rests) last place l h quiet =
       about place (other == place) (Rests other mine rests) last old.1 new.1

@@ -49,7 +49,7 @@ module _ {P : Type 0} where
   pending_after place was (Connects other Pending) = was
   pending_after place was (Polls may_block woken orders) = was
   pending_after place was (Shows ports status) = was
-  pending_after place was (BeginsTurn other before after) = was
+  pending_after place was (BeginsTurn other account before after) = was
   pending_after place was (Rests other ports rests) = was
   pending_after place was (Retires other ports end) = was
   pending_after place was (Notifies notice) = was
@@ -81,7 +81,7 @@ module _ {P : Type 0} where
   elsewhere_calm place (Connects other Pending) e = λ was. refl
   elsewhere_calm place (Polls may_block woken orders) e = λ was. refl
   elsewhere_calm place (Shows ports status) e = λ was. refl
-  elsewhere_calm place (BeginsTurn other before after) e = λ was. refl
+  elsewhere_calm place (BeginsTurn other account before after) e = λ was. refl
   elsewhere_calm place (Rests other ports rests) e = λ was. refl
   elsewhere_calm place (Retires other ports end) e = λ was. refl
   elsewhere_calm place (Notifies notice) e = λ was. refl
@@ -151,7 +151,7 @@ module _ {P S : Type 0} (to_give taken : S → Option (List ℕ)) (calls : S →
   free_then was place (Connects other Failed) old new h free = taken_free was place other h.0 old.arrivals new.arrivals h.1 free
   free_then was place (Connects other Pending) old new h free =
       stays_free was place other (arrival_at old.arrivals other) old.arrivals new.arrivals refl h.0 free
-  free_then was place (BeginsTurn other before after) old new h free =
+  free_then was place (BeginsTurn other account before after) old new h free =
       same_free was place old.arrivals new.arrivals (ap (λ (s : RunSockets S). s.arrivals) h) free
   free_then was place (Rests other ports rests) old new h free =
       same_free was place old.arrivals new.arrivals (ap (λ (s : RunSockets S). s.arrivals) h) free
@@ -179,7 +179,7 @@ module _ {P S : Type 0} (to_give taken : S → Option (List ℕ)) (calls : S →
   one_came (Connects place (Ready ports)) old new h = let same : new.came ≡ old.came = h.3 in omega (arith, same)
   one_came (Connects place Failed) old new h = let same : new.came ≡ old.came = h.3 in omega (arith, same)
   one_came (Connects place Pending) old new h = let same : new.came ≡ old.came = h.1 in omega (arith, same)
-  one_came (BeginsTurn place before after) old new h = let same : new.came ≡ old.came = ap count h in omega (arith, same)
+  one_came (BeginsTurn place account before after) old new h = let same : new.came ≡ old.came = ap count h in omega (arith, same)
   one_came (Rests place ports rests) old new h = let same : new.came ≡ old.came = ap count h in omega (arith, same)
   one_came (Retires place ports end) old new h = let same : new.came ≡ old.came = h.1 in omega (arith, same)
   one_came (Notifies notice) old new h = let same : new.came ≡ old.came = ap count h in omega (arith, same)
@@ -217,7 +217,7 @@ module _ {P : Type 0} (port_transition : P → PortCall → P → Type 0) where
   given_calm q old place turns trace new h =
       All-same (IsCalm q) trace (h.turning ++ h.leaving) h.asked
       (All-append (IsCalm q) h.turning h.leaving
-      (all_turns port_transition (IsCalm q) place (λ before after was. refl) turns old.slab h.turning h.turned h.takes.made)
+      (all_turns port_transition (IsCalm q) place (λ account before after was. refl) turns old.slab h.turning h.turned h.takes.made)
       (leave_calm q (is_closed h.now.session) h.now (record old { slab = h.turned }) place h.leaving new h.leaves))
 
   -- calls at one place, after which it is settled

@@ -1,6 +1,6 @@
 -- Every place is freed: the deadline that each session of a run over sockets has while a poll may block, the visit that it
 -- has once the deadline is past, and how often its deadlines can pass. (own)
-use Rattle.std.specs.Prelude.{◌≡◌, ◌≢◌, ◌≤◌, ◌<◌, ◌⊎◌, ℕ, ◌+◌, ◌-◌, ◌++◌, ◌||◌, not, max, Bool, true, false, List, [], ◌∷◌, length}
+use Rattle.std.specs.Prelude.{◌≡◌, ◌≢◌, ◌≤◌, ◌<◌, ◌⊎◌, ℕ, ◌+◌, ◌-◌, ◌++◌, ◌||◌, ◌&&◌, not, nat_lt, max, Bool, true, false, List, [], ◌∷◌, length}
 use Rattle.std.specs.Prelude.{Option, Some, is_some}
 use Rattle.std.specs.Duration.{as_nanos}
 use Rattle.std.specs.Time.{instant_nanos, FitsClock}
@@ -86,6 +86,10 @@ pub record KeepsTimeouts {S : Type 0} (old new : Socket S) : Type 0 where
       (new.stalls_at ≡ Some moment) ⊎ (new.stream.has_failed ≡ true)
 
 -- ---- what is left
+
+-- A peer's stall timeout is over at this reading of the clock, and it took a byte of what was held for it.
+abbrev pub takes_late : {S : Type 0} → Option Instant → Socket S → Socket S → Bool
+takes_late reading old new = is_past reading old.stalls_at && nat_lt (held_len new) (held_len old)
 
 -- The timeouts that are left of a socket's peer after a turn at this reading: of its silence, if that is not over; and of
 -- a stall, unless the peer is given up.
@@ -190,11 +194,18 @@ module _ {P S : Type 0} (transition : P → PortCall → P → Type 0) (timers :
 
   -- ---- turns beyond a deadline
 
-  -- a turn began at or past the deadline that its session had
-  abbrev pub is_overdue : P → P → Bool
-  is_overdue old begun = is_past (timers begun).sockets.reading (session_due (timers old).sockets)
+  -- when a turn began, a peer took a byte of what was held for it, though its stall timeout was over
+  abbrev pub has_late_taker : P → P → Bool
+  has_late_taker old begun =
+      takes_late (timers begun).sockets.reading (timers old).sockets.sides.bot (timers begun).sockets.sides.bot
+      || takes_late (timers begun).sockets.reading (timers old).sockets.sides.server (timers begun).sockets.sides.server
 
-  -- how many turns began at or past the session's deadline, by these calls
+  -- A turn began at or past the deadline that its session had, and no peer took a byte late.
+  abbrev pub is_overdue : P → P → Bool
+  is_overdue old begun =
+      is_past (timers begun).sockets.reading (session_due (timers old).sockets) && not (has_late_taker old begun)
+
+  -- how many turns began so at or past the session's deadline, by these calls
   abbrev pub overdue_turns : (calls : List PortCall) → (old new : P) →
       EvolvesBy transition old calls new → ℕ
   overdue_turns [] old new by = 0
@@ -203,8 +214,8 @@ module _ {P S : Type 0} (transition : P → PortCall → P → Type 0) (timers :
   overdue_turns (Pulled side room pull bytes ∷ calls) old new by = overdue_turns calls by.0 new by.2
   overdue_turns (Offered side bytes put ∷ calls) old new by = overdue_turns calls by.0 new by.2
 
-  -- Take a session of a run, from any of its calls on. Each turn that begins at or past its deadline takes one of the
-  -- timeouts that are left, and each pull that returns bytes gives back at most one.
+  -- Take a session of a run, from any of its calls on. Each turn that begins at or past its deadline, and at whose beginning
+  -- no peer takes a byte late, takes one of the timeouts that are left. Each pull that returns bytes gives back at most one.
   abbrev pub DeadlinesPassSeldom : {N C : Type 0} → (N → NetworkCall C → N → Type 0) → Type 0
   DeadlinesPassSeldom {N} network = (settings : Settings) (trace : List (SystemCall P)) (mid : P)
       (late : List PortCall) (place : SlotView P) (idle stall : Duration) (begun last : RunState N S) →

@@ -70,12 +70,14 @@ pub fn timeouts_stay<S: Duplex + Drop, W: Sink + Drop>()
 {}
 
 /// The deadlines of a session pass seldom. Of its turns between two pulls that return bytes of a peer, at most five begin
-/// at or past the deadline that it had: one for the initial message, one for the silence of each peer, and one for the
-/// stall of each. Each such turn uses up one of these timeouts, and a pull that returns bytes gives back at most one
-/// (`timeouts_left`). So, with `no_session_waits_for_ever`, a session whose peers send nothing waits for at most five
-/// deadlines, and leaves its place. It holds of each session of a run, whichever timeouts its settings have.
+/// at or past the deadline that it had without a peer that takes a byte late: one for the initial message, one for the
+/// silence of each peer, and one for the stall of each. A peer takes a byte late if its stall timeout is over, and it takes
+/// a byte of what is held for it when the turn begins (`takes_late`). Each other such turn uses up one of these timeouts,
+/// and a pull that returns bytes gives back at most one (`timeouts_left`). So, with `no_session_waits_for_ever`, a session
+/// whose peers send nothing, and take nothing late, waits for at most five deadlines, and leaves its place. It holds of
+/// each session of a run, whichever timeouts its settings have.
 ///
-/// Not said: how long a peer may go on that takes a byte before each stall timeout is over.
+/// Not said: how long a peer may go on that takes a byte before each stall timeout is over, or late.
 pub fn deadlines_pass_seldom<S: Duplex + Drop, N: Network, W: Sink + Drop>()
     ensures { DeadlinesPassSeldom ⟦<Recording<SocketPorts<'static, S>, W> as Ports>⟧.transition
         (λ ports. timers_of ports.ports) N.transition }

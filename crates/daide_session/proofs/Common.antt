@@ -41,7 +41,6 @@ pub use Rattle.daide_protocol.proofs.LimitsKept.{runs_limits}
 pub use Rattle.daide_protocol.proofs.PassingLemmas.{IsGood, AreGood, run_good, only_messages}
 pub use Rattle.daide_protocol.specs.Account.{accounted, frame_accounted}
 unfoldable pub use Rattle.daide_protocol.specs.Answers.{answer_bytes}
-pub use Rattle.daide_protocol.specs.BotName.{name_after}
 pub use Rattle.daide_protocol.specs.Bounds.{longest_body}
 pub use Rattle.daide_protocol.specs.Events.{bytes_come, Event, Comes, Ends, Loses, ImTimerExpired, OperatorStops}
 pub use Rattle.daide_protocol.specs.Fates.{Fault, Came, IsJudged, EventCause, Frame, End, Timeout, Stop, came_in}

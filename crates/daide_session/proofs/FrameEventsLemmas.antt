@@ -5,7 +5,7 @@ use Rattle.daide_session.proofs.Common.{Code, Kind, Im, Rm, Dm, Fm, Em, tokens_o
 use Rattle.daide_session.proofs.Common.{SessionPhase, Verdict, Relay, Prn, Huh, IsRaised, Note, other, Sent, Effect}
 use Rattle.daide_session.proofs.Common.{Successor, SessionState, Coming, with_noted, is_over, is_dm, is_sent, level_in}
 use Rattle.daide_session.proofs.Common.{with_pending, frame_outcome, answered, im_answered, reply_to, deed_of}
-use Rattle.daide_session.proofs.Common.{IsCorrectVerdict, Account, Deed, frame_accounted, accounted, name_after, Words}
+use Rattle.daide_session.proofs.Common.{IsCorrectVerdict, Account, Deed, frame_accounted, accounted, Words}
 use Rattle.daide_session.proofs.Common.{SessionView, Holding, account_after, queued, holding, sent_to, note_of}
 use Rattle.daide_session.proofs.Common.{frame_bytes_after, is_dm_head, frames_to, frame_tokens, ProtocolState, PerSide, at}
 use Rattle.daide_session.proofs.Common.{ReaderLimits, Channels, pending, posted, state_of, view_of, HandlesFrameEvents}
@@ -13,8 +13,6 @@ use Rattle.daide_protocol.specs.declared.note.Deed.TheVariants.{Dropped}
 use Rattle.daide_reader.proofs.ReadingLemmas.{raised_none}
 use Rattle.daide_protocol.specs.declared.note.Note.TheVariants as Notes
 use Rattle.daide_protocol.specs.Machine.{phase_after, untimely, one_effect, destination, items_outcome, question_of}
-use Rattle.daide_protocol.specs.declared.bot_name.BotName.{BotName}
-use Rattle.daide_protocol.specs.Account.{level_after}
 use Rattle.daide_channels.specs.Channels.{ReceiveState, IsAnswered, IsCleared, Keeps}
 use Rattle.daide_session.specs.FrameEvents.{HasNoMessageBytes, StartsMessage, note_by, check_of}
 use Rattle.daide_protocol.proofs.AccountLemmas.{answer_by_body}
@@ -327,38 +325,20 @@ phase_held t u side top head v phase keeps answered_by tied head_is =
     ∙ phase_of_held t.cap (pending t side) top head.kind head.len side v phase head_is)
 
 -- and so does the account
-level_of_held : (cap : ℕ) (frame_bytes : List ℕ) (top : Level) (kind : Kind) (len : ℕ) (side : Side) (deed : Deed)
-    (level : Level) → head_in cap frame_bytes ≡ Some (record { kind = kind; len = len }) →
-    level_after top kind side deed (frame_tokens cap frame_bytes) level ≡ level_after top kind side deed (tokens_of (drop 4 frame_bytes)) level
-level_of_held cap frame_bytes top Im len side deed level e = refl
-level_of_held cap frame_bytes top Rm len side deed level e = refl
-level_of_held cap frame_bytes top Dm len side deed level e = rw e refl
-level_of_held cap frame_bytes top Fm len side deed level e = refl
-level_of_held cap frame_bytes top Em len side deed level e = refl
-
-name_of_held : (cap : ℕ) (frame_bytes : List ℕ) (kind : Kind) (len : ℕ) (side : Side) (deed : Deed) (name : BotName) →
-    head_in cap frame_bytes ≡ Some (record { kind = kind; len = len }) →
-    name_after kind side deed (frame_tokens cap frame_bytes) name ≡ name_after kind side deed (tokens_of (drop 4 frame_bytes)) name
-name_of_held cap frame_bytes Im len side deed name e = refl
-name_of_held cap frame_bytes Rm len side deed name e = refl
-name_of_held cap frame_bytes Dm len side deed name e = rw e refl
-name_of_held cap frame_bytes Fm len side deed name e = refl
-name_of_held cap frame_bytes Em len side deed name e = refl
-
-frame_of_held : (cap : ℕ) (frame_bytes : List ℕ) (top : Level) (head : Head) (side : Side) (deed : Deed) (a : Account) →
-    head_in cap frame_bytes ≡ Some head →
-    frame_accounted top side head.kind deed (frame_tokens cap frame_bytes) a
-    ≡ frame_accounted top side head.kind deed (tokens_of (drop 4 frame_bytes)) a
-frame_of_held cap frame_bytes top head Bot deed a e =
-    rw (
-      level_of_held cap frame_bytes top head.kind head.len Bot deed a.level e,
-      name_of_held cap frame_bytes head.kind head.len Bot deed a.name e,
-    ) refl
-frame_of_held cap frame_bytes top head Server deed a e =
-    rw (
-      level_of_held cap frame_bytes top head.kind head.len Server deed a.level e,
-      name_of_held cap frame_bytes head.kind head.len Server deed a.name e,
-    ) refl
+frame_of_held : (cap : ℕ) (frame_bytes : List ℕ) (top : Level) (kind : Kind) (len : ℕ) (side : Side) (deed : Deed)
+    (a : Account) → head_in cap frame_bytes ≡ Some (record { kind = kind; len = len }) →
+    frame_accounted top side kind deed (frame_tokens cap frame_bytes) a
+    ≡ frame_accounted top side kind deed (tokens_of (drop 4 frame_bytes)) a
+frame_of_held cap frame_bytes top Im len Bot deed a e = refl
+frame_of_held cap frame_bytes top Rm len Bot deed a e = refl
+frame_of_held cap frame_bytes top Dm len Bot deed a e = rw e refl
+frame_of_held cap frame_bytes top Fm len Bot deed a e = refl
+frame_of_held cap frame_bytes top Em len Bot deed a e = refl
+frame_of_held cap frame_bytes top Im len Server deed a e = refl
+frame_of_held cap frame_bytes top Rm len Server deed a e = refl
+frame_of_held cap frame_bytes top Dm len Server deed a e = rw e refl
+frame_of_held cap frame_bytes top Fm len Server deed a e = refl
+frame_of_held cap frame_bytes top Em len Server deed a e = refl
 
 pub account_held : (t u : Channels) (side : Side) (top : Level) (head : Head) (deed : Deed) (a : Account) →
     Keeps side t u → IsAnswered (at t.sides side) (at u.sides side) →
@@ -368,7 +348,7 @@ pub account_held : (t u : Channels) (side : Side) (top : Level) (head : Head) (d
 account_held t u side top head deed a keeps answered_by tied head_is =
     ap (λ (n : ℕ). frame_accounted top side head.kind deed (frame_tokens n (at u.sides side).holding.frame_bytes) a) keeps.cap
     ∙ (ap (λ (b : List ℕ). frame_accounted top side head.kind deed (frame_tokens t.cap b) a) (answered_by.frame_bytes ∙ tied)
-    ∙ frame_of_held t.cap (pending t side) top head side deed a head_is)
+    ∙ frame_of_held t.cap (pending t side) top head.kind head.len side deed a head_is)
 
 pub answered_whole : (t u : Channels) (s : ProtocolState) (side : Side) (head : Head) (body : List ℕ) (verdict : Verdict)
     (phase : SessionPhase) (account : Account) (note : Note) →

@@ -61,7 +61,7 @@ fn begin<A: Allocator>(
 }
 
 /// Handles a whole frame that passed its check: judges it, queues its answer, and counts the move. It records what the
-/// bot calls itself. It drops the frame without counting it if the answer must not be sent.
+/// bot calls itself, and the power that it plays. It drops the frame without counting it if the answer must not be sent.
 #[inline(always)]
 fn answer<A: Allocator>(
     channels: &mut Channels<A>,
@@ -106,7 +106,7 @@ fn answer<A: Allocator>(
     );
     protocol
         .account
-        .record_name(side, head.kind, deed, channels.body(side));
+        .record_message(side, head.kind, deed, channels.body(side));
     Note::Frame(head, deed)
 }
 

@@ -27,7 +27,7 @@ pub use Rattle.daide_settings.specs.declared.settings.key.Key.{Key}
 pub use Rattle.daide_settings.specs.declared.settings.key.Key.TheVariants.{Listen, Server, TopLevel, MaxBody, MaxDepth}
 pub use Rattle.daide_settings.specs.declared.settings.key.Key.TheVariants.{ImSeconds, MaxSessions, Sessions, Turns}
 pub use Rattle.daide_settings.specs.declared.settings.key.Key.TheVariants.{IdleSeconds, Words, StallSeconds, Endless}
-pub use Rattle.daide_settings.specs.declared.settings.key.Key.TheVariants.{Allow, MaxPerAddress, Control}
+pub use Rattle.daide_settings.specs.declared.settings.key.Key.TheVariants.{Allow, MaxPerAddress, MaxRefused, Control}
 pub use Rattle.daide_settings.specs.declared.settings.key.TheConstants.Key.{ALL}
 pub use Rattle.daide_settings.specs.declared.settings.parts.ValuePart.{ValuePart}
 pub use Rattle.daide_settings.specs.declared.settings.ranges.AddressRange.{AddressRange}

@@ -4,7 +4,7 @@ use Rattle.std.specs.Result.{result_err}
 use Rattle.daide_settings.proofs.Common.{◌≡◌, ◌&&◌, ℕ, Bool, true, false, List, Option, Some, None, Result, Ok, Err}
 use Rattle.daide_settings.proofs.Common.{refl, Members, get_member, Word, Listen, Server, TopLevel, MaxBody, MaxDepth}
 use Rattle.daide_settings.proofs.Common.{ImSeconds, MaxSessions, Sessions, Turns, IdleSeconds, Words, StallSeconds}
-use Rattle.daide_settings.proofs.Common.{Endless, Allow, MaxPerAddress, Control, AddressRange, SettingsError, Unknown}
+use Rattle.daide_settings.proofs.Common.{Endless, Allow, MaxPerAddress, MaxRefused, Control, AddressRange, SettingsError, Unknown}
 use Rattle.daide_settings.proofs.Common.{Given, key_text, address_of, read_number, read_flag, read_text, then_with}
 use Rattle.daide_settings.proofs.Common.{keys_judged, judged_members, judged_settings, has_only_known, words_judged}
 use Rattle.daide_settings.specs.Ranges.{allow_judged}
@@ -19,8 +19,8 @@ chain :
     (d : Result ℕ SettingsError) (e : Result ℕ SettingsError) (f : Result ℕ SettingsError) (g : Result ℕ SettingsError)
     (h : Result ℕ SettingsError) (i : Result ℕ SettingsError) (j : Result ℕ SettingsError) (k : Result (List Word) SettingsError)
     (l : Result ℕ SettingsError) (m : Result Bool SettingsError) (n : Result (List AddressRange) SettingsError)
-    (o : Result ℕ SettingsError) (p : Result (Option (List ℕ)) SettingsError) →
-    (right a && (right b && (right c && (right d && (right e && (right f && (right g && (right h && (right i && (right j && (right k && (right l && (right m && (right n && (right o && (right p && true))))))))))))))))
+    (o : Result ℕ SettingsError) (p : Result ℕ SettingsError) (q : Result (Option (List ℕ)) SettingsError) →
+    (right a && (right b && (right c && (right d && (right e && (right f && (right g && (right h && (right i && (right j && (right k && (right l && (right m && (right n && (right o && (right p && (right q && true)))))))))))))))))
     ≡ is_ok {T = Given} (
     then_with a (λ listen.
     then_with b (λ server.
@@ -37,7 +37,8 @@ chain :
     then_with m (λ endless.
     then_with n (λ allow.
     then_with o (λ max_per_address.
-    then_with p (λ control.
+    then_with p (λ max_refused.
+    then_with q (λ control.
     Ok (record {
       listen = listen;
       server = server;
@@ -54,25 +55,27 @@ chain :
       endless = endless;
       allow = allow;
       max_per_address = max_per_address;
+      max_refused = max_refused;
       control = control;
-    }))))))))))))))))))
-chain (Err fault) _ _ _ _ _ _ _ _ _ _ _ _ _ _ _ = refl
-chain (Ok a) (Err fault) _ _ _ _ _ _ _ _ _ _ _ _ _ _ = refl
-chain (Ok a) (Ok b) (Err fault) _ _ _ _ _ _ _ _ _ _ _ _ _ = refl
-chain (Ok a) (Ok b) (Ok c) (Err fault) _ _ _ _ _ _ _ _ _ _ _ _ = refl
-chain (Ok a) (Ok b) (Ok c) (Ok d) (Err fault) _ _ _ _ _ _ _ _ _ _ _ = refl
-chain (Ok a) (Ok b) (Ok c) (Ok d) (Ok e) (Err fault) _ _ _ _ _ _ _ _ _ _ = refl
-chain (Ok a) (Ok b) (Ok c) (Ok d) (Ok e) (Ok f) (Err fault) _ _ _ _ _ _ _ _ _ = refl
-chain (Ok a) (Ok b) (Ok c) (Ok d) (Ok e) (Ok f) (Ok g) (Err fault) _ _ _ _ _ _ _ _ = refl
-chain (Ok a) (Ok b) (Ok c) (Ok d) (Ok e) (Ok f) (Ok g) (Ok h) (Err fault) _ _ _ _ _ _ _ = refl
-chain (Ok a) (Ok b) (Ok c) (Ok d) (Ok e) (Ok f) (Ok g) (Ok h) (Ok i) (Err fault) _ _ _ _ _ _ = refl
-chain (Ok a) (Ok b) (Ok c) (Ok d) (Ok e) (Ok f) (Ok g) (Ok h) (Ok i) (Ok j) (Err fault) _ _ _ _ _ = refl
-chain (Ok a) (Ok b) (Ok c) (Ok d) (Ok e) (Ok f) (Ok g) (Ok h) (Ok i) (Ok j) (Ok k) (Err fault) _ _ _ _ = refl
-chain (Ok a) (Ok b) (Ok c) (Ok d) (Ok e) (Ok f) (Ok g) (Ok h) (Ok i) (Ok j) (Ok k) (Ok l) (Err fault) _ _ _ = refl
-chain (Ok a) (Ok b) (Ok c) (Ok d) (Ok e) (Ok f) (Ok g) (Ok h) (Ok i) (Ok j) (Ok k) (Ok l) (Ok m) (Err fault) _ _ = refl
-chain (Ok a) (Ok b) (Ok c) (Ok d) (Ok e) (Ok f) (Ok g) (Ok h) (Ok i) (Ok j) (Ok k) (Ok l) (Ok m) (Ok n) (Err fault) _ = refl
-chain (Ok a) (Ok b) (Ok c) (Ok d) (Ok e) (Ok f) (Ok g) (Ok h) (Ok i) (Ok j) (Ok k) (Ok l) (Ok m) (Ok n) (Ok o) (Err fault) = refl
-chain (Ok a) (Ok b) (Ok c) (Ok d) (Ok e) (Ok f) (Ok g) (Ok h) (Ok i) (Ok j) (Ok k) (Ok l) (Ok m) (Ok n) (Ok o) (Ok p) = refl
+    })))))))))))))))))))
+chain (Err fault) _ _ _ _ _ _ _ _ _ _ _ _ _ _ _ _ = refl
+chain (Ok a) (Err fault) _ _ _ _ _ _ _ _ _ _ _ _ _ _ _ = refl
+chain (Ok a) (Ok b) (Err fault) _ _ _ _ _ _ _ _ _ _ _ _ _ _ = refl
+chain (Ok a) (Ok b) (Ok c) (Err fault) _ _ _ _ _ _ _ _ _ _ _ _ _ = refl
+chain (Ok a) (Ok b) (Ok c) (Ok d) (Err fault) _ _ _ _ _ _ _ _ _ _ _ _ = refl
+chain (Ok a) (Ok b) (Ok c) (Ok d) (Ok e) (Err fault) _ _ _ _ _ _ _ _ _ _ _ = refl
+chain (Ok a) (Ok b) (Ok c) (Ok d) (Ok e) (Ok f) (Err fault) _ _ _ _ _ _ _ _ _ _ = refl
+chain (Ok a) (Ok b) (Ok c) (Ok d) (Ok e) (Ok f) (Ok g) (Err fault) _ _ _ _ _ _ _ _ _ = refl
+chain (Ok a) (Ok b) (Ok c) (Ok d) (Ok e) (Ok f) (Ok g) (Ok h) (Err fault) _ _ _ _ _ _ _ _ = refl
+chain (Ok a) (Ok b) (Ok c) (Ok d) (Ok e) (Ok f) (Ok g) (Ok h) (Ok i) (Err fault) _ _ _ _ _ _ _ = refl
+chain (Ok a) (Ok b) (Ok c) (Ok d) (Ok e) (Ok f) (Ok g) (Ok h) (Ok i) (Ok j) (Err fault) _ _ _ _ _ _ = refl
+chain (Ok a) (Ok b) (Ok c) (Ok d) (Ok e) (Ok f) (Ok g) (Ok h) (Ok i) (Ok j) (Ok k) (Err fault) _ _ _ _ _ = refl
+chain (Ok a) (Ok b) (Ok c) (Ok d) (Ok e) (Ok f) (Ok g) (Ok h) (Ok i) (Ok j) (Ok k) (Ok l) (Err fault) _ _ _ _ = refl
+chain (Ok a) (Ok b) (Ok c) (Ok d) (Ok e) (Ok f) (Ok g) (Ok h) (Ok i) (Ok j) (Ok k) (Ok l) (Ok m) (Err fault) _ _ _ = refl
+chain (Ok a) (Ok b) (Ok c) (Ok d) (Ok e) (Ok f) (Ok g) (Ok h) (Ok i) (Ok j) (Ok k) (Ok l) (Ok m) (Ok n) (Err fault) _ _ = refl
+chain (Ok a) (Ok b) (Ok c) (Ok d) (Ok e) (Ok f) (Ok g) (Ok h) (Ok i) (Ok j) (Ok k) (Ok l) (Ok m) (Ok n) (Ok o) (Err fault) _ = refl
+chain (Ok a) (Ok b) (Ok c) (Ok d) (Ok e) (Ok f) (Ok g) (Ok h) (Ok i) (Ok j) (Ok k) (Ok l) (Ok m) (Ok n) (Ok o) (Ok p) (Err fault) = refl
+chain (Ok a) (Ok b) (Ok c) (Ok d) (Ok e) (Ok f) (Ok g) (Ok h) (Ok i) (Ok j) (Ok k) (Ok l) (Ok m) (Ok n) (Ok o) (Ok p) (Ok q) = refl
 
 keys_right : (members : Members) → keys_are_right members ≡ is_ok (keys_judged members)
 keys_right members =
@@ -92,6 +95,7 @@ keys_right members =
     (read_flag Endless (get_member (key_text Endless) members))
     (allow_judged (get_member (key_text Allow) members))
     (read_number MaxPerAddress (get_member (key_text MaxPerAddress) members))
+    (read_number MaxRefused (get_member (key_text MaxRefused) members))
     (read_text Control (get_member (key_text Control) members))
 
 pub members_right : (members : Members) → is_right members ≡ is_ok (judged_members members)

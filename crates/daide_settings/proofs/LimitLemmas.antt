@@ -1,7 +1,7 @@
 -- The keys of a document, with its limits in the two parts in which the code reads them.
 use Rattle.std.specs.Result.{IfErr, IsErrAnd}
 use Rattle.daide_settings.proofs.Common.{◌≡◌, ℕ, List, true, Result, Ok, Err, refl, Members, get_member, Listen, Server, Words}
-use Rattle.daide_settings.proofs.Common.{StallSeconds, Endless, Allow, MaxPerAddress, Control, SettingsError, Given}
+use Rattle.daide_settings.proofs.Common.{StallSeconds, Endless, Allow, MaxPerAddress, MaxRefused, Control, SettingsError, Given}
 use Rattle.daide_settings.proofs.Common.{key_text, address_of, read_number, read_flag, read_text, then_with}
 use Rattle.daide_settings.proofs.Common.{has_only_known, judged_members, keys_judged, words_judged}
 use Rattle.daide_settings.specs.Causes.{IsFaultBy}
@@ -27,6 +27,7 @@ judged_in_parts members =
     then_with (read_flag Endless (get_member (key_text Endless) members)) (λ endless.
     then_with (allow_judged (get_member (key_text Allow) members)) (λ allow.
     then_with (read_number MaxPerAddress (get_member (key_text MaxPerAddress) members)) (λ max_per_address.
+    then_with (read_number MaxRefused (get_member (key_text MaxRefused) members)) (λ max_refused.
     then_with (read_text Control (get_member (key_text Control) members)) (λ control.
     Ok (record {
       listen = listen;
@@ -44,8 +45,9 @@ judged_in_parts members =
       endless = endless;
       allow = allow;
       max_per_address = max_per_address;
+      max_refused = max_refused;
       control = control;
-    })))))))))))
+    }))))))))))))
 
 in_parts : (members : Members) → keys_judged members ≡ judged_in_parts members
 in_parts _ = simp extended

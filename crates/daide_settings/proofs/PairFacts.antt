@@ -7,23 +7,23 @@ use Rattle.daide_settings.proofs.Common.{◌≡◌, codes, true, false, List, �
 use Rattle.daide_settings.proofs.Common.{Result, Ok, Err, pos, Data, string, integer, boolean, array, no_items, item}
 use Rattle.daide_settings.proofs.Common.{Members, no_members, member, table, Key, Listen, Server, TopLevel, MaxBody}
 use Rattle.daide_settings.proofs.Common.{MaxDepth, ImSeconds, MaxSessions, Sessions, Turns, IdleSeconds, Words}
-use Rattle.daide_settings.proofs.Common.{StallSeconds, Endless, Allow, MaxPerAddress, Control, SettingsError, Unknown}
+use Rattle.daide_settings.proofs.Common.{StallSeconds, Endless, Allow, MaxPerAddress, MaxRefused, Control, SettingsError, Unknown}
 use Rattle.daide_settings.proofs.Common.{WrongType, Range, Given, is_in_range, judged_members}
 use Rattle.daide_settings.specs.declared.settings.ranges.Host.TheVariants.{V4}
 use Rattle.std.specs.Net.Reader.{read_number, read_octet, read_ipv4}
 use Rattle.daide_settings.specs.Settings.{address_judged}
 
--- ---- documents with all sixteen keys
+-- ---- documents with all seventeen keys
 
 -- the value of each key, in the order of the table; the members are in the order of their keys' bytes
 abbrev document : (ℕ → Data) → Members
 document value =
-    member (codes "allow") (value 13) (member (codes "control") (value 15) (member (codes "endless") (value 12) (member (codes "idle_seconds") (value 9)
+    member (codes "allow") (value 13) (member (codes "control") (value 16) (member (codes "endless") (value 12) (member (codes "idle_seconds") (value 9)
     (member (codes "im_seconds") (value 5) (member (codes "listen") (value 0) (member (codes "max_body") (value 3)
-    (member (codes "max_depth") (value 4) (member (codes "max_per_address") (value 14)
+    (member (codes "max_depth") (value 4) (member (codes "max_per_address") (value 14) (member (codes "max_refused") (value 15)
     (member (codes "max_sessions") (value 6) (member (codes "server") (value 1) (member (codes "sessions") (value 7) (member (codes "stall_seconds") (value 11)
     (member (codes "top_level") (value 2) (member (codes "turns") (value 8) (member (codes "words") (value 10)
-    no_members)))))))))))))))
+    no_members))))))))))))))))
 
 abbrev at : List Data → ℕ → Data
 at values n = slice_index_or values n (boolean false)
@@ -34,7 +34,7 @@ right =
     string (codes "l:1") ∷ string (codes "s:2") ∷ integer (pos 20) ∷ integer (pos 1024) ∷ integer (pos 13)
     ∷ integer (pos 4) ∷ integer (pos 5) ∷ integer (pos 6) ∷ integer (pos 7) ∷ integer (pos 8) ∷ array no_items
     ∷ integer (pos 9) ∷ boolean true ∷ array (item (string (codes "127.0.0.0/8")) no_items)
-    ∷ integer (pos 10) ∷ string (codes "c") ∷ []
+    ∷ integer (pos 10) ∷ integer (pos 11) ∷ string (codes "c") ∷ []
 
 each_key_has_its_field : judged_members (document (at right)) ≡ Ok (record {
   listen = codes "l:1";
@@ -52,6 +52,7 @@ each_key_has_its_field : judged_members (document (at right)) ≡ Ok (record {
   endless = true;
   allow = record { host = V4 0x7F000000; prefix = 8 } ∷ [];
   max_per_address = 10;
+  max_refused = 11;
   control = Some (codes "c");
 })
 unfolding judged_members read_number read_octet read_ipv4
@@ -70,11 +71,11 @@ ranged =
     string [] ∷ string [] ∷ integer (pos 25) ∷ integer (pos 513) ∷ integer (pos 3) ∷ integer (pos 3601)
     ∷ integer (pos 257) ∷ integer (pos 1000001) ∷ integer (pos 0) ∷ integer (pos 86401)
     ∷ array (item no_slot no_items) ∷ integer (pos 86401) ∷ integer (pos 1) ∷ array no_items
-    ∷ integer (pos 257) ∷ string [] ∷ []
+    ∷ integer (pos 257) ∷ integer (pos 1000001) ∷ string [] ∷ []
 
 -- a value of a type that no key has
 abbrev typed : List Data
-typed = replicate 16 (table no_members)
+typed = replicate 17 (table no_members)
 
 -- ---- two faults
 
@@ -86,17 +87,19 @@ faulty first second i j =
 -- each key but the last, with each key after it
 abbrev pairs : List Data → List Data → List (List (Result Given SettingsError))
 pairs first second =
-    map (λ i. map (faulty first second i) (range_with_len (i + 1) (15 - i))) (range_with_len 0 15)
+    map (λ i. map (faulty first second i) (range_with_len (i + 1) (16 - i))) (range_with_len 0 16)
 
--- the fault reported for each key, with fifteen, fourteen, .. keys after it; no boolean is out of
+-- the fault reported for each key, with sixteen, fifteen, .. keys after it; no boolean is out of
 -- range
 abbrev told : (Key → SettingsError) → List (List (Result Given SettingsError))
 told fault =
-    replicate 15 (Err (fault Listen)) ∷ replicate 14 (Err (fault Server)) ∷ replicate 13 (Err (fault TopLevel))
-    ∷ replicate 12 (Err (fault MaxBody)) ∷ replicate 11 (Err (fault MaxDepth)) ∷ replicate 10 (Err (fault ImSeconds))
-    ∷ replicate 9 (Err (fault MaxSessions)) ∷ replicate 8 (Err (fault Sessions)) ∷ replicate 7 (Err (fault Turns))
-    ∷ replicate 6 (Err (fault IdleSeconds)) ∷ replicate 5 (Err (fault Words)) ∷ replicate 4 (Err (fault StallSeconds))
-    ∷ replicate 3 (Err (WrongType Endless)) ∷ replicate 2 (Err (fault Allow)) ∷ replicate 1 (Err (fault MaxPerAddress))
+    replicate 16 (Err (fault Listen)) ∷ replicate 15 (Err (fault Server)) ∷ replicate 14 (Err (fault TopLevel))
+    ∷ replicate 13 (Err (fault MaxBody)) ∷ replicate 12 (Err (fault MaxDepth))
+    ∷ replicate 11 (Err (fault ImSeconds)) ∷ replicate 10 (Err (fault MaxSessions))
+    ∷ replicate 9 (Err (fault Sessions)) ∷ replicate 8 (Err (fault Turns)) ∷ replicate 7 (Err (fault IdleSeconds))
+    ∷ replicate 6 (Err (fault Words)) ∷ replicate 5 (Err (fault StallSeconds))
+    ∷ replicate 4 (Err (WrongType Endless)) ∷ replicate 3 (Err (fault Allow))
+    ∷ replicate 2 (Err (fault MaxPerAddress)) ∷ replicate 1 (Err (fault MaxRefused))
     ∷ []
 
 first_key_told : (pairs ranged ranged ≡ told Range) × (pairs typed typed ≡ told WrongType)
@@ -106,7 +109,7 @@ first_key_told = (refl, refl, refl, refl)
 
 -- a fault of one key alone
 abbrev alone : List Data → List (Result Given SettingsError)
-alone faults = map (λ i. faulty faults faults i i) (range_with_len 0 16)
+alone faults = map (λ i. faulty faults faults i i) (range_with_len 0 17)
 
 -- the keys before the flag
 abbrev keys : List Key
@@ -115,8 +118,8 @@ keys =
     ∷ Words ∷ StallSeconds ∷ []
 
 each_key_told : (alone ranged ≡ map (λ key. Err (Range key)) keys ++ Err (WrongType Endless) ∷ Err (Range Allow)
-    ∷ Err (Range MaxPerAddress) ∷ Err (Range Control) ∷ [])
-    × (alone typed ≡ map (λ key. Err (WrongType key)) (keys ++ Endless ∷ Allow ∷ MaxPerAddress ∷ Control ∷ []))
+    ∷ Err (Range MaxPerAddress) ∷ Err (Range MaxRefused) ∷ Err (Range Control) ∷ [])
+    × (alone typed ≡ map (λ key. Err (WrongType key)) (keys ++ Endless ∷ Allow ∷ MaxPerAddress ∷ MaxRefused ∷ Control ∷ []))
 unfolding judged_members read_number read_octet read_ipv4
 each_key_told = (refl, refl)
 
@@ -125,8 +128,8 @@ abbrev with_unknown : List Data → ℕ → Result Given SettingsError
 with_unknown faults i =
     judged_members (member (codes "depth") (integer (pos 5)) (document (λ n. if n == i then at faults n else at right n)))
 
-unknown_key_told : (map (with_unknown ranged) (range_with_len 0 17) ≡ replicate 17 (Err Unknown))
-    × (map (with_unknown typed) (range_with_len 0 17) ≡ replicate 17 (Err Unknown))
+unknown_key_told : (map (with_unknown ranged) (range_with_len 0 18) ≡ replicate 18 (Err Unknown))
+    × (map (with_unknown typed) (range_with_len 0 18) ≡ replicate 18 (Err Unknown))
 unfolding judged_members
 unknown_key_told = (refl, refl)
 

@@ -4,7 +4,7 @@ use Rattle.std.specs.Fmt.{digits}
 use Rattle.daide_settings.proofs.Common.{◌≡◌, ℕ, List, [], ◌∷◌, ◌++◌, Option, Some, None, refl, ap, ◌∙◌, codes, length}
 use Rattle.daide_settings.proofs.Common.{arith, no_members, Key, TopLevel, MaxBody, MaxDepth, ImSeconds, MaxSessions}
 use Rattle.daide_settings.proofs.Common.{Sessions, Turns, IdleSeconds, Words, StallSeconds, Endless, Allow}
-use Rattle.daide_settings.proofs.Common.{MaxPerAddress, Control, ALL, SettingsError, WrongType, Range, fault_at}
+use Rattle.daide_settings.proofs.Common.{MaxPerAddress, MaxRefused, Control, ALL, SettingsError, WrongType, Range, fault_at}
 use Rattle.daide_settings.proofs.Common.{ValuePart, key_text, default_line, part_words, path_text, AreParts}
 use Rattle.daide_settings.proofs.Common.{IsFaultPart, IsUnknownLine}
 use Rattle.daide_settings.specs.declared.settings.parts.Field.TheVariants.{Level}
@@ -20,8 +20,8 @@ unfolding digits
 default_lines = refl
 
 other_defaults : default_line Words ++ (default_line StallSeconds ++ (default_line Endless ++ (default_line Allow
-    ++ (default_line MaxPerAddress ++ default_line Control))))
-    ≡ codes "words = [] # default\nstall_seconds = 60 # default\nendless = false # default\nallow = [\"0.0.0.0/0\", \"::/0\"] # default\nmax_per_address = 0 # default\n# control is not set\n"
+    ++ (default_line MaxPerAddress ++ (default_line MaxRefused ++ default_line Control)))))
+    ≡ codes "words = [] # default\nstall_seconds = 60 # default\nendless = false # default\nallow = [\"0.0.0.0/0\", \"::/0\"] # default\nmax_per_address = 0 # default\nmax_refused = 0 # default\n# control is not set\n"
 unfolding digits
 other_defaults = refl
 

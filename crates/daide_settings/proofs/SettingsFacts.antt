@@ -5,7 +5,7 @@ use Rattle.daide_settings.proofs.Common.{◌≡◌, codes, true, false, List, �
 use Rattle.daide_settings.proofs.Common.{Result, Data, string, integer, boolean, array, table, Items, no_items, item}
 use Rattle.daide_settings.proofs.Common.{Members, no_members, member, parse_document, Listen, Server, TopLevel, MaxBody}
 use Rattle.daide_settings.proofs.Common.{MaxDepth, ImSeconds, MaxSessions, Sessions, Turns, IdleSeconds, Words}
-use Rattle.daide_settings.proofs.Common.{StallSeconds, Endless, Allow, MaxPerAddress, Control, ALL, Unknown, Missing}
+use Rattle.daide_settings.proofs.Common.{StallSeconds, Endless, Allow, MaxPerAddress, MaxRefused, Control, ALL, Unknown, Missing}
 use Rattle.daide_settings.proofs.Common.{WrongType, Range, is_in_range, address_of, read_flag, read_number}
 use Rattle.daide_settings.proofs.Common.{judged_members, judged_settings, words_judged, Word, SettingsError}
 use Rattle.toml.proofs.OnLiterals.{toml_on_literals}
@@ -20,7 +20,7 @@ use Rattle.daide_words.specs.declared.operand.Operand.TheVariants.{Power}
 
 -- each key once, in the order of the checks
 all_keys : ALL ≡ Listen ∷ Server ∷ TopLevel ∷ MaxBody ∷ MaxDepth ∷ ImSeconds ∷ MaxSessions ∷ Sessions ∷ Turns
-    ∷ IdleSeconds ∷ Words ∷ StallSeconds ∷ Endless ∷ Allow ∷ MaxPerAddress ∷ Control ∷ []
+    ∷ IdleSeconds ∷ Words ∷ StallSeconds ∷ Endless ∷ Allow ∷ MaxPerAddress ∷ MaxRefused ∷ Control ∷ []
 all_keys = refl
 
 -- ---- ranges, at both ends
@@ -151,6 +151,15 @@ as_many_as_sessions = refl
 more_than_sessions : is_in_range MaxPerAddress 257 ≡ false
 more_than_sessions = refl
 
+never_refused_often : is_in_range MaxRefused 0 ≡ true
+never_refused_often = refl
+
+refused_a_million_times : is_in_range MaxRefused 1000000 ≡ true
+refused_a_million_times = refl
+
+refused_more_often : is_in_range MaxRefused 1000001 ≡ false
+refused_more_often = refl
+
 path_of_no_bytes : is_in_range Control 0 ≡ false
 path_of_no_bytes = refl
 
@@ -185,6 +194,7 @@ defaults : judged_members two_addresses ≡ Ok (record {
   endless = false;
   allow = everyone;
   max_per_address = 0;
+  max_refused = 0;
   control = None;
 })
 unfolding judged_members

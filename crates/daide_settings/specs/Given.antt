@@ -20,5 +20,6 @@ given_of settings = record {
   endless = settings.endless;
   allow = settings.allow.items;
   max_per_address = settings.max_per_address;
+  max_refused = settings.max_refused;
   control = settings.control;
 }

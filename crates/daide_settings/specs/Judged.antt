@@ -6,7 +6,7 @@ use Rattle.toml.specs.Data.{Data, Members, get_member}
 use Rattle.daide_settings.specs.declared.settings.key.Key.{Key}
 use Rattle.daide_settings.specs.declared.settings.key.Key.TheVariants.{Listen, Server, TopLevel, MaxBody, MaxDepth}
 use Rattle.daide_settings.specs.declared.settings.key.Key.TheVariants.{ImSeconds, MaxSessions, Sessions, Turns, IdleSeconds}
-use Rattle.daide_settings.specs.declared.settings.key.Key.TheVariants.{Words, StallSeconds, Endless, Allow, MaxPerAddress, Control}
+use Rattle.daide_settings.specs.declared.settings.key.Key.TheVariants.{Words, StallSeconds, Endless, Allow, MaxPerAddress, MaxRefused, Control}
 use Rattle.daide_settings.specs.declared.settings.key.TheConstants.Key.{ALL}
 use Rattle.daide_settings.specs.declared.settings.SettingsError.{SettingsError}
 use Rattle.daide_settings.specs.Settings.{key_text, address_of, read_flag, read_number, read_text, has_only_known}
@@ -30,6 +30,7 @@ fault_of StallSeconds value = result_err (read_number StallSeconds value)
 fault_of Endless value = result_err (read_flag Endless value)
 fault_of Allow value = result_err (allow_judged value)
 fault_of MaxPerAddress value = result_err (read_number MaxPerAddress value)
+fault_of MaxRefused value = result_err (read_number MaxRefused value)
 fault_of Control value = result_err (read_text Control value)
 
 -- the fault of a key in a document

@@ -9,7 +9,7 @@ use Rattle.toml.specs.Text.{IsValueText}
 use Rattle.daide_settings.specs.declared.settings.key.Key.{Key}
 use Rattle.daide_settings.specs.declared.settings.key.Key.TheVariants.{Listen, Server, TopLevel, MaxBody, MaxDepth}
 use Rattle.daide_settings.specs.declared.settings.key.Key.TheVariants.{ImSeconds, MaxSessions, Sessions, Turns, IdleSeconds}
-use Rattle.daide_settings.specs.declared.settings.key.Key.TheVariants.{Words, StallSeconds, Endless, Allow, MaxPerAddress, Control}
+use Rattle.daide_settings.specs.declared.settings.key.Key.TheVariants.{Words, StallSeconds, Endless, Allow, MaxPerAddress, MaxRefused, Control}
 use Rattle.daide_settings.specs.declared.settings.key.TheConstants.Key.{ALL}
 use Rattle.daide_settings.specs.declared.settings.SettingsError.{SettingsError}
 use Rattle.daide_settings.specs.declared.settings.SettingsError.TheVariants.{NotToml, Unknown, Missing}
@@ -53,6 +53,7 @@ range_words StallSeconds = codes "a number of seconds, an integer from 0 to 8640
 range_words Endless = codes "true or false"
 range_words Allow = codes "an array of 1 to 16 strings, each an address with or without /PREFIX"
 range_words MaxPerAddress = codes "an integer from 0 to 256"
+range_words MaxRefused = codes "an integer from 0 to 1000000"
 range_words Control = codes "a string of 1 to 100 bytes"
 
 -- the type and the range of an entry of a key's array

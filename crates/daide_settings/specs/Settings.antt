@@ -10,7 +10,7 @@ use Rattle.daide_protocol.specs.Config.{is_level, is_body, is_depth}
 use Rattle.daide_settings.specs.declared.settings.key.Key.{Key}
 use Rattle.daide_settings.specs.declared.settings.key.Key.TheVariants.{Listen, Server, TopLevel, MaxBody, MaxDepth}
 use Rattle.daide_settings.specs.declared.settings.key.Key.TheVariants.{ImSeconds, MaxSessions, Sessions, Turns, IdleSeconds}
-use Rattle.daide_settings.specs.declared.settings.key.Key.TheVariants.{Words, StallSeconds, Endless, Allow, MaxPerAddress, Control}
+use Rattle.daide_settings.specs.declared.settings.key.Key.TheVariants.{Words, StallSeconds, Endless, Allow, MaxPerAddress, MaxRefused, Control}
 use Rattle.daide_settings.specs.declared.settings.SettingsError.{SettingsError}
 use Rattle.daide_settings.specs.declared.settings.SettingsError.TheVariants.{NotToml, Unknown, Missing}
 use Rattle.daide_settings.specs.declared.settings.SettingsError.TheVariants.{WrongType, Range}
@@ -39,6 +39,7 @@ key_text StallSeconds = codes "stall_seconds"
 key_text Endless = codes "endless"
 key_text Allow = codes "allow"
 key_text MaxPerAddress = codes "max_per_address"
+key_text MaxRefused = codes "max_refused"
 key_text Control = codes "control"
 
 abbrev pub is_within : ℕ → ℕ → ℕ → Bool
@@ -66,6 +67,7 @@ is_in_range StallSeconds n = is_within 0 longest_timeout n
 is_in_range Endless n = false
 is_in_range Allow n = is_within 1 most_ranges n
 is_in_range MaxPerAddress n = is_within 0 most_sessions n
+is_in_range MaxRefused n = is_within 0 1000000 n
 is_in_range Control n = is_within 1 100 n
 
 -- the number of a key that is missing in a document; the two addresses are required and have none, and neither have
@@ -86,6 +88,7 @@ default_of StallSeconds = Some 60
 default_of Endless = None
 default_of Allow = None
 default_of MaxPerAddress = Some 0
+default_of MaxRefused = Some 0
 default_of Control = None
 
 -- whether a document may have this key
@@ -96,7 +99,7 @@ is_known text =
     || bytes_eq text (key_text MaxSessions) || bytes_eq text (key_text Sessions) || bytes_eq text (key_text Turns)
     || bytes_eq text (key_text IdleSeconds) || bytes_eq text (key_text Words)
     || bytes_eq text (key_text StallSeconds) || bytes_eq text (key_text Endless) || bytes_eq text (key_text Allow)
-    || bytes_eq text (key_text MaxPerAddress) || bytes_eq text (key_text Control)
+    || bytes_eq text (key_text MaxPerAddress) || bytes_eq text (key_text MaxRefused) || bytes_eq text (key_text Control)
 
 abbrev pub has_only_known : Members → Bool
 has_only_known members = has_only is_known members
@@ -170,6 +173,7 @@ pub record Given : Type 0 where
   pub endless : Bool
   pub allow : List AddressRange
   pub max_per_address : ℕ
+  pub max_refused : ℕ
   pub control : Option (List ℕ)
 
 -- the next check, if the one before it passed
@@ -195,6 +199,7 @@ keys_judged members =
     then_with (read_flag Endless (get_member (key_text Endless) members)) (λ endless.
     then_with (allow_judged (get_member (key_text Allow) members)) (λ allow.
     then_with (read_number MaxPerAddress (get_member (key_text MaxPerAddress) members)) (λ max_per_address.
+    then_with (read_number MaxRefused (get_member (key_text MaxRefused) members)) (λ max_refused.
     then_with (read_text Control (get_member (key_text Control) members)) (λ control.
     Ok (record {
       listen = listen;
@@ -212,8 +217,9 @@ keys_judged members =
       endless = endless;
       allow = allow;
       max_per_address = max_per_address;
+      max_refused = max_refused;
       control = control;
-    })))))))))))))))))
+    }))))))))))))))))))
 
 -- an unknown key is reported before any key is checked
 unfoldable pub judged_members : Members → Result Given SettingsError

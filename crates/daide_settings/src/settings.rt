@@ -100,6 +100,8 @@ pub struct Settings {
     pub allow: ArrayVec<AddressRange, MAX_RANGES>,
     /// The greatest number of sessions at once with bots from one address; 0 for no limit.
     pub max_per_address: u16,
+    /// The number of refused messages of one side at which its session is stopped; 0 for never.
+    pub max_refused: u32,
     /// The path of the socket on which the run takes an operator's requests; `None` if it takes none.
     pub control: Option<ControlPath>,
     pub ghost right: { config_fault config ≡ Ok tt },

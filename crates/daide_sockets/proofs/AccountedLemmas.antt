@@ -124,7 +124,7 @@ module _ {P S : Type 0} (to_give taken : S → Option (List ℕ)) (calls : S →
         few = λ few. omega (arith, fewer, few);
       }
   one (Shows ports status) old new h = same_counts (Shows ports status) old new h refl refl
-  one (BeginsTurn place before after) old new h = same_counts (BeginsTurn place before after) old new h refl refl
+  one (BeginsTurn place account before after) old new h = same_counts (BeginsTurn place account before after) old new h refl refl
   one (Rests place ports rests) old new h = same_counts (Rests place ports rests) old new h refl refl
   one (Accepts place true) old new h =
       let came = h.came in
@@ -187,7 +187,7 @@ module _ {P S : Type 0} (to_give taken : S → Option (List ℕ)) (calls : S →
       bots_joined (call ∷ trace) ≡ bots_joined (call ∷ []) + bots_joined trace
   joined_first (Polls may_block woken orders) trace = omega arith
   joined_first (Shows ports status) trace = omega arith
-  joined_first (BeginsTurn place before after) trace = omega arith
+  joined_first (BeginsTurn place account before after) trace = omega arith
   joined_first (Rests place ports rests) trace = omega arith
   joined_first (Accepts place came) trace = omega arith
   joined_first (Connects place (Ready ports)) trace = omega arith
@@ -200,7 +200,7 @@ module _ {P S : Type 0} (to_give taken : S → Option (List ℕ)) (calls : S →
       bots_given_up (call ∷ trace) ≡ bots_given_up (call ∷ []) + bots_given_up trace
   given_up_first (Polls may_block woken orders) trace = omega arith
   given_up_first (Shows ports status) trace = omega arith
-  given_up_first (BeginsTurn place before after) trace = omega arith
+  given_up_first (BeginsTurn place account before after) trace = omega arith
   given_up_first (Rests place ports rests) trace = omega arith
   given_up_first (Accepts place came) trace = omega arith
   given_up_first (Connects place (Ready ports)) trace = omega arith
@@ -213,7 +213,7 @@ module _ {P S : Type 0} (to_give taken : S → Option (List ℕ)) (calls : S →
       sessions_retired (call ∷ trace) ≡ sessions_retired (call ∷ []) + sessions_retired trace
   retired_first (Polls may_block woken orders) trace = omega arith
   retired_first (Shows ports status) trace = omega arith
-  retired_first (BeginsTurn place before after) trace = omega arith
+  retired_first (BeginsTurn place account before after) trace = omega arith
   retired_first (Rests place ports rests) trace = omega arith
   retired_first (Accepts place came) trace = omega arith
   retired_first (Connects place connect) trace = omega arith

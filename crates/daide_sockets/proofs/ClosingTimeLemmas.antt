@@ -6,18 +6,20 @@ use Rattle.std.specs.Duration.{as_nanos}
 use Rattle.std.specs.Time.{instant_nanos, FitsClock}
 use Rattle.std.specs.declared.time.Duration.{Duration}
 use Rattle.std.specs.declared.time.Instant.{Instant}
+use Rattle.std.proofs.lemmas.Bool.{ltb-true, ltb-false}
 use Rattle.std.proofs.lemmas.List.Elements.{All-nil, All-cons, All-head, All-tail, All-same, All-append, All-push, All-weaker}
 use Rattle.daide_buffered_io.specs.Buffers.{Buffer, with_stream}
+use Rattle.daide_buffered_io.specs.declared.readiness.Readiness.{Readiness}
 use Rattle.daide_buffered_io.specs.Calls.{is_last_piece}
 use Rattle.daide_io.specs.Streams.{StreamCall}
 use Rattle.daide_io.specs.System.{SystemCall, Polls, Shows, Accepts, Connects, BeginsTurn, Rests, Retires, Notifies, TransitsBy}
 use Rattle.daide_io.specs.declared.system.Connect.TheVariants.{Ready, Failed, Pending}
 use Rattle.daide_sockets.specs.PollTimes.{closing_due, stage_due}
-use Rattle.daide_sockets.specs.ClosingTime.{IsReadingFor, ReadingsGoOn, LingersBy, overdue_looks, ClosesSince, IsClosingInTime}
+use Rattle.daide_sockets.specs.ClosingTime.{IsReadingFor, ReadingsGoOn, LingersBy, takes_byte, overdue_looks, ClosesSince, IsClosingInTime}
 use Rattle.daide_sockets.specs.ClosingTime.{IsWithinBound, bound_of, readings_of}
 use Rattle.daide_sockets.specs.ClosingTime.{ClosingSocketsLeave}
 use Rattle.daide_sockets.specs.Lingering.{ClosingStream, ClosingList, IsWriting, IsWritingOver, WritesOut, Lingers, AdvancesOn}
-use Rattle.daide_sockets.specs.Lingering.{IsClosingBound}
+use Rattle.daide_sockets.specs.Lingering.{IsClosingBound, TriesLast}
 use Rattle.daide_sockets.specs.Lingering.{begins_closing, with_report, end_time, IsLookedAt, LooksAtEach, LooksAround, in_pass}
 use Rattle.daide_sockets.specs.Pairing.{Paired, ClosesAt, with_room}
 use Rattle.daide_sockets.specs.Scheduling.{RunState, ClosesByClock}
@@ -198,9 +200,22 @@ module _ {S : Type 0} (to_give taken : S → Option (List ℕ)) (calls : S → O
       (λ (h : IsWritingOver new.stream × IsAfter now end_time new.released_at).
       inr (h.0, end_there stall now last new.released_at r h.1)) w.stage
 
-  -- A stream that was advanced at or past its deadline, and stays, is not written any more. Before it was.
+  -- a peer that took no byte of the last try is given up
+  given_up : (known still : Readiness) (old new : Buffer S) → TriesLast calls known old still new →
+      length old.write_buffer ≤ length new.write_buffer → new.has_failed ≡ true
+  given_up known still old new last none = by (nat_lt (length last.tried.write_buffer) (length old.write_buffer)) refl
+    where
+      by : (took : Bool) → nat_lt (length last.tried.write_buffer) (length old.write_buffer) ≡ took → new.has_failed ≡ true
+      by true e =
+          let less = ltb-true (length last.tried.write_buffer) (length old.write_buffer) e in
+          let same = ap (λ (s : Buffer S). length s.write_buffer) (last.takes less) in
+          absurd (omega (arith, less, same, none))
+      by false e = ap (λ (s : Buffer S). s.has_failed) (last.gives_up (ltb-false (length last.tried.write_buffer) (length old.write_buffer) e))
+
+  -- A stream that was advanced at or past its deadline while its peer took no byte, and stays, is not written any more.
+  -- Before it was.
   step_left : (now : Option Instant) (old new : ClosingStream S) → Lingers to_give taken calls now old new → IsSet old →
-      (if is_past now (closing_due old) then 1 else 0) + left new ≤ left old
+      (if is_past now (closing_due old) && not (takes_byte old new) then 1 else 0) + left new ≤ left old
   step_left now old new step set =
       let same : is_past now (closing_due old) ≡ is_past now (stage_due old) =
       not_past_bound now (stage_due old) old.closes_at step.1.0 in
@@ -209,11 +224,10 @@ module _ {S : Type 0} (to_give taken : S → Option (List ℕ)) (calls : S → O
       omega (arith, most, counted)
     where
       count : Bool → ℕ
-      count b = if b then 1 else 0
+      count past = if past && not (takes_byte old new) then 1 else 0
 
       by : (past : Bool) → is_past now (stage_due old) ≡ past →
-          AdvancesOn to_give taken calls now (with_report step.0 old) new →
-          (if is_past now (stage_due old) then 1 else 0) + left new ≤ left old
+          AdvancesOn to_give taken calls now (with_report step.0 old) new → count (is_past now (stage_due old)) + left new ≤ left old
       by past e (inr h) =
           let pull = h.0 in
           let over = h.1 in
@@ -226,24 +240,36 @@ module _ {S : Type 0} (to_give taken : S → Option (List ℕ)) (calls : S → O
           let early : is_past now (stage_due old) ≡ false =
           ap (λ (m : Option Instant). is_past now m) (due_over old over ∙ sym dropped.released_at)
           ∙ not_over_yet now new.released_at late in
-          let zero : (if is_past now (stage_due old) then 1 else 0) ≡ 0 = ap count early in
+          let zero : count (is_past now (stage_due old)) ≡ 0 = ap count early in
           omega (arith, none, after, zero)
       by false e (inl h) =
-          let zero : (if is_past now (stage_due old) then 1 else 0) ≡ 0 = ap count e in
+          let zero : count (is_past now (stage_due old)) ≡ 0 = ap count e in
           let most = left_most new in
           let one = left_writing old h.0 in
           omega (arith, zero, most, one)
-      by true e (inl h) =
-          let w = h.1 in
-          let stalled : has_stalled old.stall_time now old.stalls_at ≡ true =
-          ap (λ (t : Option Duration). has_stalled t now old.stalls_at) (set h.0)
-          ∙ ap (λ (m : Option Instant). is_past now m) (sym (due_writing old h.0)) ∙ e in
-          let gone : new.stream.has_failed ≡ true =
-          w.failed ∙ ap (λ (s : Buffer S). s.has_failed) (w.tries.gives_up stalled).0 in
-          let after = left_over new (λ fine. absurd (cc)) in
-          let one = left_writing old h.0 in
-          let whole : (if is_past now (stage_due old) then 1 else 0) ≡ 1 = ap count e in
-          omega (arith, after, one, whole)
+      by true e (inl h) = took (takes_byte old new) refl
+        where
+          one : left old ≡ 1
+          one = left_writing old h.0
+
+          took : (took : Bool) → takes_byte old new ≡ took → count (is_past now (stage_due old)) + left new ≤ left old
+          took true t =
+              let zero : count (is_past now (stage_due old)) ≡ 0 = ap count e ∙ ap (λ (b : Bool). if true && not b then 1 else 0) t in
+              let most = left_most new in
+              omega (arith, zero, most, one)
+          took false t =
+              let w = h.1 in
+              let stalled : has_stalled old.stall_time now old.stalls_at ≡ true =
+              ap (λ (t : Option Duration). has_stalled t now old.stalls_at) (set h.0)
+              ∙ ap (λ (m : Option Instant). is_past now m) (sym (due_writing old h.0)) ∙ e in
+              let same = ap length w.write_buffer in
+              let none = ltb-false (length new.stream.write_buffer) (length old.stream.write_buffer) t in
+              let gone : new.stream.has_failed ≡ true =
+              w.failed ∙ given_up (with_report step.0 old).known w.tried.known old.stream w.tried.stream (w.tries.last stalled)
+              (omega (arith, same, none)) in
+              let after = left_over new (λ fine. absurd (cc)) in
+              let whole : count (is_past now (stage_due old)) ≡ 1 = ap count e ∙ ap (λ (b : Bool). if true && not b then 1 else 0) t in
+              omega (arith, after, one, whole)
 
   step_set : (now : Option Instant) (old new : ClosingStream S) → Lingers to_give taken calls now old new → IsSet old →
       IsSet new
@@ -519,7 +545,7 @@ module _ {S : Type 0} (to_give taken : S → Option (List ℕ)) (calls : S → O
       call_since (Polls may_block woken orders) old new here there h all =
           round_since new.table.reading old.closing new.closing there h all
       call_since (Shows ports status) old new here there h all = same_since old.closing new.closing h all
-      call_since (BeginsTurn place before after) old new here there h all = same_since old.closing new.closing h all
+      call_since (BeginsTurn place account before after) old new here there h all = same_since old.closing new.closing h all
       call_since (Rests place ports rests) old new here there h all = same_since old.closing new.closing h all
       call_since (Accepts place came) old new here there h all = same_since old.closing new.closing h all
       call_since (Connects place (Ready ports)) old new here there h all = same_since old.closing new.closing h all

@@ -6,7 +6,7 @@ use Rattle.std.specs.declared.time.Duration.{Duration}
 use Rattle.std.specs.declared.time.Instant.{Instant}
 use Rattle.daide_sockets.specs.Control.{has_control_work, control_due}
 use Rattle.daide_sockets.specs.PollTimes.{IsPlaceInTime, ControlWaitsAreInTime}
-use Rattle.daide_sockets.specs.ControlSlots.{places, has_free, is_control_due, arming_places, arming_listener}
+use Rattle.daide_sockets.specs.ControlSlots.{has_free, is_control_due, arming_places, arming_listener}
 use Rattle.daide_sockets.specs.Clock.{IsInTimeFor}
 use Rattle.daide_sockets.specs.Table.{arming_all}
 use Rattle.daide_sockets.specs.Table.{Table, arming, IsPollTime}
@@ -87,10 +87,10 @@ module _ {S : Type 0} where
 
 pub control_in_time : (S : Type 0) → ControlWaitsAreInTime S
 control_in_time S table control others time lasts =
-    let room = has_free (places control.slots) in
+    let room = has_free control.slots in
     let first : Table = arming_listener table room control.listener in
     record {
-      connections = subst (λ (reading : Option Instant). All (IsPlaceInTime reading time) (places control.slots))
-          (same_clock table room control.listener) (places_in_time (places control.slots) others first time lasts);
-      listener = listener_in_time (places control.slots) others table room control.listener time lasts;
+      connections = subst (λ (reading : Option Instant). All (IsPlaceInTime reading time) control.slots)
+          (same_clock table room control.listener) (places_in_time control.slots others first time lasts);
+      listener = listener_in_time control.slots others table room control.listener time lasts;
     }

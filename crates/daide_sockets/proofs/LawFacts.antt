@@ -20,7 +20,7 @@ use Rattle.daide_sockets.specs.Table.{Table, IsPollTime, arming_all}
 use Rattle.daide_sockets.specs.Clock.{IsInTimeFor}
 use Rattle.daide_sockets.specs.Control.{has_work_at}
 use Rattle.daide_sockets.specs.PollTimes.{IsPlaceInTime, ControlWaitsAreInTime}
-use Rattle.daide_sockets.specs.ControlSlots.{is_place_free, has_free, is_control_due, arming_control}
+use Rattle.daide_sockets.specs.ControlSlots.{has_free, is_control_due, arming_control}
 use Rattle.daide_sockets.specs.declared.control.Control.{Control}
 use Rattle.daide_sockets.specs.declared.listener.Listener.{Listener}
 use Rattle.daide_sockets.specs.declared.control_connection.ControlConnection.{ControlConnection}
@@ -97,27 +97,23 @@ given_up_closes_one to_give taken calls law pair old new none no_arrivals no_clo
 
 -- while the second control connection may be read, a poll takes no time
 control_is_read : (S : Type 0) → ControlWaitsAreInTime S → (table : Table) (control : Control S)
-    (connection : ControlConnection S) (time : Duration) → control.slots.second ≡ Some connection →
-    connection.stage ≡ Reads → connection.readiness.may_read ≡ true →
-    IsPollTime true (arming_control table control) (Some time) → as_nanos time ≡ 0
-control_is_read S law table control connection time second reads ready lasts =
+    (first : Option (ControlConnection S)) (connection : ControlConnection S) (rest : List (Option (ControlConnection S)))
+    (time : Duration) → control.slots ≡ first ∷ Some connection ∷ rest → connection.stage ≡ Reads →
+    connection.readiness.may_read ≡ true → IsPollTime true (arming_control table control) (Some time) → as_nanos time ≡ 0
+control_is_read S law table control first connection rest time slots reads ready lasts =
     let InTime : Option (ControlConnection S) → Type 0 = IsPlaceInTime table.reading (Some time) in
-    let rest = control.slots.third ∷ control.slots.fourth ∷ [] in
-    let own : InTime control.slots.second =
-    All-head InTime control.slots.second rest
-    (All-tail InTime control.slots.first (control.slots.second ∷ rest) (law table control [] (Some time) lasts).connections) in
-    let there : InTime (Some connection) = subst InTime second own in
+    let all = subst (All InTime) slots (law table control [] (Some time) lasts).connections in
+    let there = All-head InTime (Some connection) rest (All-tail InTime first (Some connection ∷ rest) all) in
     there.work (ap (λ (s : Stage). has_work_at s connection.readiness) reads ∙ ready)
 
 -- while the first place is free, and the listener may give a connection, a poll takes no time
 control_is_accepted : (S : Type 0) → ControlWaitsAreInTime S → (table : Table) (control : Control S)
-    (listener : Listener) (time : Duration) → control.slots.first ≡ None → control.listener ≡ Some listener →
-    is_control_due table listener ≡ true → IsPollTime true (arming_control table control) (Some time) →
-    as_nanos time ≡ 0
-control_is_accepted S law table control listener time free there ready lasts =
-    ((law table control [] (Some time) lasts).listener listener (ap (λ (p : Option (ControlConnection S)).
-    is_place_free p || has_free (control.slots.second ∷ control.slots.third ∷ control.slots.fourth ∷ [])) free) there).work
-    ready
+    (listener : Listener) (rest : List (Option (ControlConnection S))) (time : Duration) → control.slots ≡ None ∷ rest →
+    control.listener ≡ Some listener → is_control_due table listener ≡ true →
+    IsPollTime true (arming_control table control) (Some time) → as_nanos time ≡ 0
+control_is_accepted S law table control listener rest time slots there ready lasts =
+    ((law table control [] (Some time) lasts).listener listener
+    (ap (λ (places : List (Option (ControlConnection S))). has_free places) slots) there).work ready
 
 module _ {N P S : Type 0} (to_give taken : S → Option (List ℕ)) (calls : S → Option (List StreamCall))
     (law : ClosingSocketsLeave to_give taken calls N P) (pair : P → Paired S) (old new : RunState N S) (stall : Duration)

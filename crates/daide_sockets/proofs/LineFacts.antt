@@ -7,7 +7,7 @@ use Rattle.std.specs.declared.net.socket_addr.SocketAddr.TheVariants.{V4}
 use Rattle.daide_frame.specs.declared.code.Code.TheVariants as Codes
 use Rattle.daide_frame.specs.declared.side.Side.TheVariants.{Bot, Server}
 use Rattle.daide_protocol.specs.Account.{nothing_accounted}
-use Rattle.daide_protocol.specs.AccountText.{account_text, name_part, rest_text, side_text}
+use Rattle.daide_protocol.specs.AccountText.{account_text, name_part, power_part, rest_text, side_text}
 use Rattle.daide_protocol.specs.declared.ending.Ending.{Ending}
 use Rattle.daide_protocol.specs.declared.ending.Ending.TheVariants.{Ended, Lost, Final, Error, Fault, Stopped}
 use Rattle.daide_io.specs.declared.fault_field.FaultField.TheVariants.{Token}
@@ -39,8 +39,10 @@ events_are_told = (refl, refl, refl, refl, refl, refl, refl, refl, refl)
 others_are_told :
     (why_text (Whys.Ended Causes.TurnsSpent None) ≡ codes "turns spent") × (why_text (Whys.Silent Bot) ≡ codes "bot silent")
     × (why_text (Whys.Silent Server) ≡ codes "server silent") × (why_text Whys.NoServer ≡ codes "no server")
+    × (why_text (Whys.Refused Bot) ≡ codes "too many refusals of bot")
+    × (why_text (Whys.Refused Server) ≡ codes "too many refusals of server")
     × (why_text (session (Fault Bot Codes.ImTimeout)) ≡ codes "no IM in time")
-others_are_told = (refl, refl, refl, refl, refl)
+others_are_told = (refl, refl, refl, refl, refl, refl, refl)
 
 stalls_are_told : why_text (Whys.Stalled Server 60) ≡ codes "server took nothing for 60 s"
 unfolding digits
@@ -72,7 +74,7 @@ lines_are_told = (refl, refl, refl, refl)
 
 end_is_told : line_of (Notices.Ended 3 (record { milliseconds = Some 61299 }) (Whys.Silent Bot) nothing_accounted)
     ≡ codes "daide-gate: session 3 ended after 61.2 s: bot silent; bot 0 relayed 0 prn 0 huh; server 0 relayed 0 prn 0 huh; 0 faults; level 0\n"
-unfolding account_text side_text rest_text name_part digits
+unfolding account_text side_text rest_text name_part power_part digits
 end_is_told = refl
 
 -- ---- counts
@@ -93,8 +95,9 @@ others_are_counted :
     × (end_cause_of (Whys.Silent Bot) ≡ EndCauses.Silent Bot) × (end_cause_of (Whys.Silent Server) ≡ EndCauses.Silent Server)
     × (end_cause_of (Whys.Stalled Bot 60) ≡ EndCauses.Stalled Bot)
     × (end_cause_of (Whys.Stalled Server 60) ≡ EndCauses.Stalled Server)
+    × (end_cause_of (Whys.Refused Bot) ≡ EndCauses.Refused Bot) × (end_cause_of (Whys.Refused Server) ≡ EndCauses.Refused Server)
     × (end_cause_of (why_unreached false) ≡ EndCauses.NoServer) × (end_cause_of (why_unreached true) ≡ EndCauses.Stopped)
-others_are_counted = (refl, refl, refl, refl, refl, refl, refl, refl, refl, refl)
+others_are_counted = (refl, refl, refl, refl, refl, refl, refl, refl, refl, refl, refl, refl)
 
 no_bots_are_counted : (no_bot_counted NoneCame no_counts ≡ no_counts)
     × (no_bot_counted (MayNotCome bot) no_counts ≡ record no_counts { declined = 1 })

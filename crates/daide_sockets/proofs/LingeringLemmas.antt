@@ -3,22 +3,20 @@ use Rattle.std.proofs.Common.{◌≡◌, ◌⊎◌, ℕ, suc, ◌+◌, ◌-◌, 
 use Rattle.std.proofs.Common.{Option, Some, None, Bool, true, false, zero, arith, inl, inr, append_assoc, append-nil, subst}
 use Rattle.std.proofs.Common.{take-append-drop, get_or}
 use Rattle.std.specs.Prelude.{◌||◌, not, min, nat_lt, if◌then◌else◌, slice_get, slice_set, remove}
-use Rattle.std.specs.declared.time.Duration.{Duration}
 use Rattle.std.proofs.lemmas.List.{length-append, length-take-le}
 use Rattle.std.proofs.Math.Seq.{set-append_seam}
 use Rattle.std.proofs.lemmas.Option.{slice_get_read}
 use Rattle.std.specs.declared.time.Instant.{Instant}
 use Rattle.daide_io.specs.declared.ports.Pull.{Pull}
 use Rattle.daide_io.specs.declared.ports.Pull.TheVariants.{Got}
-use Rattle.daide_buffered_io.specs.declared.readiness.Readiness.{Readiness}
-use Rattle.daide_buffered_io.specs.Buffers.{Buffer, Passes, WritesNothing, IsBufferedPull, IsFlushed}
+use Rattle.daide_buffered_io.specs.Buffers.{Passes, WritesNothing, IsBufferedPull, IsFlushed}
 use Rattle.daide_buffered_io.specs.Calls.{is_last_piece}
 use Rattle.daide_io.specs.Streams.{StreamCall}
 use Rattle.daide_sockets.specs.Pairing.{with_room}
 use Rattle.daide_sockets.specs.Clock.{StallsNext, has_stalled, is_time_over}
 use Rattle.daide_sockets.specs.Lingering.{ClosingStream, ClosingList, Discards, Lingers, Leaves, IsLookedAt, LooksAtOne}
 use Rattle.daide_sockets.specs.Lingering.{LooksAtEach, LooksAlong, IsWriting, IsWritingOver, ClosingsGoOn, GoOnFor, is_released}
-use Rattle.daide_sockets.specs.Lingering.{TriesWriting, LooksAround, IsReleasedNow}
+use Rattle.daide_sockets.specs.Lingering.{LooksAround, IsReleasedNow, TriesLast, TriesWriting}
 
 -- ---- lists
 
@@ -255,75 +253,24 @@ module _ {S : Type 0} (to_give taken : S → Option (List ℕ)) (calls : S → O
 
     -- ---- a try to write
 
-    writing_or_over : (b : Buffer S) → IsWriting b ⊎ IsWritingOver b
-    writing_or_over b = by b.has_failed b.write_buffer refl refl
-      where
-        by : (failed : Bool) (held : List ℕ) → b.has_failed ≡ failed → b.write_buffer ≡ held → IsWriting b ⊎ IsWritingOver b
-        by true held e f = inr (λ h. absurd (cc))
-        by false [] e f = inr (λ h. f)
-        by false (x ∷ xs) e f = let len = ap length f in inl (e, omega (arith, len))
-
-    not_both : (b : Buffer S) → IsWriting b → IsWritingOver b → ⊥
-    not_both b h k = let none = ap length (k h.0) in let some = h.1 in omega (arith, none, some)
-
-    -- a peer is given up if it is stalled, and then what is held is written once
-    pub tried_writing : (old new was : ClosingStream S) (mid : Buffer S) (time : Option Duration) (moment : Option Instant)
-        (known : Readiness) →
-        was ≡ old → (has_stalled was.stall_time now was.stalls_at ≡ true → mid ≡ record was.stream { has_failed = true }) →
-        (has_stalled was.stall_time now was.stalls_at ≡ false → mid ≡ was.stream) →
-        (has_stalled was.stall_time now was.stalls_at ≡ false → moment ≡ was.stalls_at) → time ≡ was.stall_time →
-        known ≡ was.known → new.key ≡ was.key →
-        (IsWriting mid → IsFlushed calls known mid new.known new.stream) →
-        (IsWritingOver mid → new.stream ≡ mid) → (IsWritingOver mid → new.known ≡ known) →
-        (IsWriting mid → IsWriting new.stream → StallsNext time now moment
-        (nat_lt (length new.stream.write_buffer) (length mid.write_buffer)) new.stalls_at) →
-        new.stall_time ≡ time → TriesWriting calls now old new
-    tried_writing old new was mid time moment known e gives_up stays same_moment same_time same_known key written nothing
-        unasked waits new_time =
-        subst (λ (o : ClosingStream S). TriesWriting calls now o new) e
-        (record {
-          gives_up = λ h. (
-            nothing (failed_over (gives_up h)) ∙ gives_up h,
-            unasked (failed_over (gives_up h)) ∙ same_known,
-          );
-          written = λ h k. subst (λ (r : Readiness). IsFlushed calls r was.stream new.known new.stream) same_known
-              (subst (λ (m : Buffer S). IsFlushed calls known m new.known new.stream) (stays h)
-              (written (subst (λ (m : Buffer S). IsWriting m) (sym (stays h)) k)));
-          nothing = λ h k. (
-            nothing (subst (λ (m : Buffer S). IsWritingOver m) (sym (stays h)) k) ∙ stays h,
-            unasked (subst (λ (m : Buffer S). IsWritingOver m) (sym (stays h)) k) ∙ same_known,
-          );
-          waits = waits_by (has_stalled was.stall_time now was.stalls_at) refl;
-          stall_time = new_time ∙ same_time;
+    pub tried_writing : (old new was : ClosingStream S) → was ≡ old →
+        (has_stalled was.stall_time now was.stalls_at ≡ true → TriesLast calls was.known was.stream new.known new.stream) →
+        (has_stalled was.stall_time now was.stalls_at ≡ false → IsWriting was.stream →
+        IsFlushed calls was.known was.stream new.known new.stream) →
+        (has_stalled was.stall_time now was.stalls_at ≡ false → IsWritingOver was.stream →
+        (new.stream ≡ was.stream) × (new.known ≡ was.known)) →
+        (IsWriting new.stream → StallsNext was.stall_time now was.stalls_at
+        (nat_lt (length new.stream.write_buffer) (length was.stream.write_buffer)) new.stalls_at) →
+        new.stall_time ≡ was.stall_time → new.key ≡ was.key → TriesWriting calls now old new
+    tried_writing old new was e last written nothing waits time key =
+        subst (λ (o : ClosingStream S). TriesWriting calls now o new) e (record {
+          last = last;
+          written = written;
+          nothing = nothing;
+          waits = waits;
+          stall_time = time;
           key = key;
         })
-      where
-        failed_over : mid ≡ record was.stream { has_failed = true } → IsWritingOver mid
-        failed_over h k =
-            let failed : mid.has_failed ≡ true = ap (λ (b : Buffer S). b.has_failed) h in
-            absurd (true_not_false (sym failed ∙ k))
-          where
-            true_not_false : true ≡ false → ⊥
-            true_not_false h = absurd (cc)
-
-        waits_by : (b : Bool) → has_stalled was.stall_time now was.stalls_at ≡ b → IsWriting new.stream →
-            StallsNext was.stall_time now was.stalls_at
-            (nat_lt (length new.stream.write_buffer) (length was.stream.write_buffer)) new.stalls_at
-        waits_by true h k =
-            let over : IsWritingOver mid = failed_over (gives_up h) in
-            absurd (not_both mid (subst (λ (m : Buffer S). IsWriting m) (nothing over) k) over)
-        waits_by false h k = by (writing_or_over mid)
-          where
-            by : IsWriting mid ⊎ IsWritingOver mid → StallsNext was.stall_time now was.stalls_at
-                (nat_lt (length new.stream.write_buffer) (length was.stream.write_buffer)) new.stalls_at
-            by (inl is) =
-                subst (λ (t : Option Duration). StallsNext t now was.stalls_at
-                (nat_lt (length new.stream.write_buffer) (length was.stream.write_buffer)) new.stalls_at) same_time
-                (subst (λ (m : Option Instant). StallsNext time now m
-                (nat_lt (length new.stream.write_buffer) (length was.stream.write_buffer)) new.stalls_at) (same_moment h)
-                (subst (λ (m : Buffer S). StallsNext time now moment
-                (nat_lt (length new.stream.write_buffer) (length m.write_buffer)) new.stalls_at) (stays h) (waits is k)))
-            by (inr over) = absurd (not_both mid (subst (λ (m : Buffer S). IsWriting m) (nothing over) k) over)
 
     -- ---- a list that grows
 

@@ -55,7 +55,7 @@ module _ {S : Type 0} (n : ℕ) where
         handed pair n (call ∷ []) + left new ≤ left old
     one (Polls may_block woken orders) old new h = let e = kept old new h.0 h.1 in omega (arith, e)
     one (Shows ports status) old new h = let e : left new ≡ left old = ap left h in omega (arith, e)
-    one (BeginsTurn place before after) old new h = let e : left new ≡ left old = ap left h in omega (arith, e)
+    one (BeginsTurn place account before after) old new h = let e : left new ≡ left old = ap left h in omega (arith, e)
     one (Rests place ports rests) old new h = let e : left new ≡ left old = ap left h in omega (arith, e)
     one (Accepts place true) old new h =
         let a = sum_in numbered old.arrivals new.arrivals place h.arrival refl h.free h.arrivals in
@@ -86,7 +86,7 @@ module _ {S : Type 0} (n : ℕ) where
         handed pair n (call ∷ trace) ≡ handed pair n (call ∷ []) + handed pair n trace
     handed_first (Polls may_block woken orders) trace = omega (arith)
     handed_first (Shows ports status) trace = omega (arith)
-    handed_first (BeginsTurn place before after) trace = omega (arith)
+    handed_first (BeginsTurn place account before after) trace = omega (arith)
     handed_first (Rests place ports rests) trace = omega (arith)
     handed_first (Accepts place came) trace = omega (arith)
     handed_first (Connects place (Ready ports)) trace = omega (arith)

@@ -5,7 +5,8 @@ use Rattle.std.specs.Prelude.{slice_get}
 use Rattle.std.specs.declared.time.Duration.{Duration}
 use Rattle.std.specs.declared.time.Instant.{Instant}
 use Rattle.daide_frame.specs.declared.side.Side.{Side}
-use Rattle.daide_frame.specs.declared.side.Side.TheVariants.{Bot, Server}
+use Rattle.daide_frame.specs.declared.side.Side.TheVariants.{Server}
+use Rattle.daide_frame.specs.declared.side.Side.TheVariants as Sides
 use Rattle.daide_io.specs.Network.{NetworkCall}
 use Rattle.daide_io.specs.Streams.{StreamCall}
 use Rattle.daide_io.specs.declared.system.Orders.{Orders}
@@ -15,12 +16,13 @@ use Rattle.daide_io.specs.ReadyQueue.{is_among, occurrences_of, is_same}
 use Rattle.daide_io.specs.declared.network.SocketEvent.{SocketEvent}
 use Rattle.daide_sockets.specs.Control.{has_control_work, control_due}
 use Rattle.daide_sockets.specs.Accepting.{ClosesOrNot, round_begun}
-use Rattle.daide_sockets.specs.ControlSlots.{BeginsRound, IsControlRow, has_free, places, arming_control, arming_listener, arming_places}
+use Rattle.daide_sockets.specs.ControlSlots.{BeginsRound, IsControlRow, has_free, arming_control, arming_listener, arming_places}
 use Rattle.daide_sockets.specs.KeptRows.{ChangesRows, IsFixedRow, KeepsReportsOf}
 use Rattle.daide_sockets.specs.Lingering.{ClosingList}
 use Rattle.daide_sockets.specs.Pairing.{Arriving}
 use Rattle.daide_sockets.specs.Scheduling.{BringsOrders, IsStatusOf, RunState, run_state}
 use Rattle.daide_sockets.specs.Rows.{AreRowsOf, KeepsClosingRows}
+use Rattle.daide_sockets.specs.declared.present.Bot.{Bot}
 use Rattle.daide_sockets.specs.Table.{Table, IsPollTime, changed, deadline_at, deadline_in, first_closing, key_of, latest, listener_key}
 use Rattle.daide_sockets.specs.Table.{merged, report_at, report_of, row_at, disarmed, arming, with_event, with_events}
 use Rattle.daide_sockets.specs.Clock.{is_past}
@@ -64,10 +66,10 @@ armed_listener table false (Some listener) = refl
 
 pub armed_control : {S : Type 0} (table : Table) (control : Control S) → IsArmed table (arming_control table control)
 armed_control table control =
-    let first = arming_listener table (has_free (places control.slots)) control.listener in
-    armed_then table first (arming_places first (places control.slots))
-    (armed_listener table (has_free (places control.slots)) control.listener)
-    (armed_places first (places control.slots))
+    let first = arming_listener table (has_free control.slots) control.listener in
+    armed_then table first (arming_places first control.slots)
+    (armed_listener table (has_free control.slots) control.listener)
+    (armed_places first control.slots)
 
 -- the time of a poll that may block is that of a table in which others are watched; that of any other is of none
 pub blocks_armed : (may_block : Bool) (base armed : Table) (others : List (Bool × Option Instant)) (time : Option Duration) →
@@ -212,7 +214,7 @@ module _ {N S : Type 0} (transition : N → NetworkCall S → N → Type 0) (to_
   polled_rows = ap (λ (t : Table). t.rows) polled_is ∙ reported_rows
 
   place_key : (place : ℕ) (side : Side) → place < length before.deadlines → key_of place side ≤ listener_key before
-  place_key place Bot lt = omega (arith, lt)
+  place_key place Sides.Bot lt = omega (arith, lt)
   place_key place Server lt = omega (arith, lt)
 
   report_kept : AreRowsOf before given → (place : ℕ) (side : Side) → place < length before.deadlines →
@@ -271,12 +273,12 @@ module _ {N S : Type 0} (transition : N → NetworkCall S → N → Type 0) (to_
   -- a round of the control socket by what the poll reported, and after it the listener for bots is closed, or no call is made
   pub orders_run : (times : Option Duration × Option Duration) (acceptor tidied : Acceptor)
       (arrivals : List (Option (Arriving S))) (closing : ClosingList S) (own : Control S) (new : RunState N S) (result : Orders)
-      (heard : N) (run : RunStatus) → AreRowsOf before given → tidied ≡ round_begun first.reading acceptor →
-      IsStatusOf (run_state (network, second) times tidied arrivals closing own) run →
-      BeginsRound transition to_give taken calls run second polled_network own result heard new.control →
+      (heard : N) (run : RunStatus) (bots : List Bot) → AreRowsOf before given → tidied ≡ round_begun first.reading acceptor →
+      IsStatusOf (run_state (network, second) times tidied arrivals closing own) (length bots) run →
+      BeginsRound transition to_give taken calls run bots second polled_network own result heard new.control →
       ClosesOrNot transition heard new.network →
       BringsOrders transition to_give taken calls (run_state (network, before) times acceptor arrivals closing own) result new
-  orders_run times acceptor tidied arrivals closing own new result heard run rows began status round closes =
+  orders_run times acceptor tidied arrivals closing own new result heard run bots rows began status round closes =
       let same = ap (λ (t : Table). t.reading) forgets ∙ ap (λ (t : Table). t.reading) polled_is ∙ reported_reading in
       let tidied_is = began ∙ ap (λ (reading : Option Instant). round_begun reading acceptor) same in record {
         time = time;
@@ -294,9 +296,10 @@ module _ {N S : Type 0} (transition : N → NetworkCall S → N → Type 0) (to_
         reading = ap (λ (t : Table). t.reading) advances.same ∙ same;
         places = second_count;
         reports = fixed_kept rows;
+        bots = bots;
         run = run;
-        status = subst (λ (a : Acceptor). IsStatusOf (run_state (network, second) times a arrivals closing own) run) tidied_is
-            status;
+        status = subst (λ (a : Acceptor). IsStatusOf (run_state (network, second) times a arrivals closing own) (length bots) run)
+            tidied_is status;
         heard = heard;
         round = round;
         closes = closes;

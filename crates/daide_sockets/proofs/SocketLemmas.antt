@@ -46,6 +46,7 @@ reported_begins reading known old new h = record {
   };
   stall = record { restarts = h.stall.restarts; goes_on = h.stall.goes_on; ends = h.stall.ends; rests = h.stall.rests };
   gives_up = h.gives_up;
+  goes_on = h.goes_on;
 }
 
 -- a session begins with these sockets

@@ -1,5 +1,5 @@
 -- How long a stream closes: its deadlines since its closing began, and how often they pass. (own)
-use Rattle.std.specs.Prelude.{◌≡◌, ◌≤◌, ◌<◌, ℕ, ◌+◌, max, if◌then◌else◌, List, [], ◌∷◌, Option, Some, All, Contains}
+use Rattle.std.specs.Prelude.{◌≡◌, ◌≤◌, ◌<◌, ℕ, ◌+◌, ◌&&◌, not, nat_lt, max, if◌then◌else◌, Bool, List, [], ◌∷◌, length, Option, Some, All, Contains}
 use Rattle.std.specs.Duration.{as_nanos}
 use Rattle.std.specs.Time.{instant_nanos, FitsClock}
 use Rattle.std.specs.declared.time.Duration.{Duration}
@@ -43,6 +43,10 @@ readings_of transition (call ∷ trace) old new by =
 abbrev pub bound_of : Duration → Instant → ℕ
 bound_of stall begun = instant_nanos begun + (as_nanos stall + end_time)
 
+-- the peer of a stream took a byte of what was buffered for it
+abbrev pub takes_byte : {S : Type 0} → ClosingStream S → ClosingStream S → Bool
+takes_byte old new = nat_lt (length new.stream.write_buffer) (length old.stream.write_buffer)
+
 module _ {S : Type 0} (to_give taken : S → Option (List ℕ)) (calls : S → Option (List StreamCall)) where
   -- a stream was advanced at these readings of the clock, the last one first, and stayed each time
   abbrev pub LingersBy : List (Option Instant) → ClosingStream S → ClosingStream S → Type 0
@@ -50,11 +54,11 @@ module _ {S : Type 0} (to_give taken : S → Option (List ℕ)) (calls : S → O
   LingersBy (now ∷ readings) first new =
       (mid : ClosingStream S) × LingersBy readings first mid × Lingers to_give taken calls now mid new
 
-  -- how often it was advanced at or past the deadline that it had
+  -- how often it was advanced at or past the deadline that it had, while its peer took no byte
   abbrev pub overdue_looks : (readings : List (Option Instant)) → (first new : ClosingStream S) → LingersBy readings first new → ℕ
   overdue_looks [] first new by = 0
   overdue_looks (now ∷ readings) first new by =
-      (if is_past now (closing_due by.0) then 1 else 0) + overdue_looks readings first by.0 by.1
+      (if is_past now (closing_due by.0) && not (takes_byte by.0 new) then 1 else 0) + overdue_looks readings first by.0 by.1
 
   -- a stream whose closing began, with this stall timeout of its peer, and which was advanced since
   pub record ClosesSince (stall_time : Option Duration) (closing : ClosingStream S) : Type 0 where
@@ -77,8 +81,9 @@ module _ {S : Type 0} (to_give taken : S → Option (List ℕ)) (calls : S → O
     pub due : (due : Instant) × (closing_due closing ≡ Some due) × (instant_nanos due ≤ bound_of stall begun)
 
   -- A stream that still closes, of which the peer has a stall timeout. It began, and was advanced since, at readings of this
-  -- clock. It was advanced at most once at or past a deadline. While the clock goes on it has a deadline, at most the stall
-  -- timeout or a second after it was advanced last. Whether or not the clock goes on, it is within its bound.
+  -- clock. It was advanced at most once at or past a deadline while its peer took no byte. While the clock goes on it has a
+  -- deadline, at most the stall timeout or a second after it was advanced last. Whether or not the clock goes on, it is
+  -- within its bound.
   pub record IsClosingInTime (stall : Duration) (clock : List (Option Instant)) (closing : ClosingStream S) : Type 0 where
     pub since : ClosesSince (Some stall) closing
     pub by_clock : All (λ reading. Contains clock reading) (since.start ∷ since.readings)

@@ -40,7 +40,7 @@ KeepsBeside old (Connects place Failed) new = KeepsReportsOf (IsFixedRow old) ol
 KeepsBeside old (Retires place ports end) new = place < length old.deadlines → KeepsReportsOf (IsFixedRow old) old new
 KeepsBeside old (Connects place (Ready ports)) new = KeepsReportsOf (λ key. listener_key old ≤ key) old new
 KeepsBeside old (Connects place Pending) new = KeepsReportsOf (λ key. listener_key old ≤ key) old new
-KeepsBeside old (BeginsTurn place before after) new =
+KeepsBeside old (BeginsTurn place account before after) new =
     place < length old.deadlines → KeepsReportsOf (λ key. listener_key old ≤ key) old new
 KeepsBeside old (Rests place ports rests) new = new.rows ≡ old.rows
 KeepsBeside old (Shows ports status) new = new ≡ old

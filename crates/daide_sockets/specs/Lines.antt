@@ -25,6 +25,8 @@ use Rattle.daide_status.specs.declared.counts.EndCause.TheVariants as EndCauses
 use Rattle.daide_status.specs.declared.counts.RunCounts.{RunCounts}
 use Rattle.daide_sockets.specs.declared.admission.NoBot.{NoBot}
 use Rattle.daide_sockets.specs.declared.admission.NoBot.TheVariants.{NoneCame, MayNotCome, NotFollowed}
+use Rattle.daide_sockets.specs.declared.ports.StopCause.{StopCause}
+use Rattle.daide_sockets.specs.declared.ports.StopCause.TheVariants.{Refusals}
 use Rattle.daide_sockets.specs.declared.present.Bot.{Bot}
 use Rattle.daide_sockets.specs.declared.session_notice.Lasted.{Lasted}
 use Rattle.daide_sockets.specs.declared.session_notice.SessionNotice.{SessionNotice}
@@ -46,15 +48,20 @@ abbrev pub why_lost : Side → Timed → ℕ → Why
 why_lost side timed seconds =
     if timed.is_stalled then Whys.Stalled side seconds else Whys.Ended (Causes.Session (Lost side)) None
 
+-- a stopped session is reported with the side whose messages were refused too often, if it was stopped for that
+abbrev pub why_stopped : Option StopCause → Why
+why_stopped (Some (Refusals side)) = Whys.Refused side
+why_stopped other = Whys.Ended (Causes.Session Stopped) None
+
 -- Any other cause is reported as it is, and a fault with the field that it is about. `seconds` is the stall timeout.
-abbrev pub why_by : Cause → Option FaultField → PerSide Timed → ℕ → Why
-why_by Causes.TurnsSpent field timed seconds = Whys.Ended Causes.TurnsSpent None
-why_by (Causes.Session (Ended side)) field timed seconds = why_ended side (at timed side) seconds
-why_by (Causes.Session (Lost side)) field timed seconds = why_lost side (at timed side) seconds
-why_by (Causes.Session (Final side)) field timed seconds = Whys.Ended (Causes.Session (Final side)) None
-why_by (Causes.Session (Error side)) field timed seconds = Whys.Ended (Causes.Session (Error side)) None
-why_by (Causes.Session (Fault side code)) field timed seconds = Whys.Ended (Causes.Session (Fault side code)) field
-why_by (Causes.Session Stopped) field timed seconds = Whys.Ended (Causes.Session Stopped) None
+abbrev pub why_by : Cause → Option FaultField → PerSide Timed → Option StopCause → ℕ → Why
+why_by Causes.TurnsSpent field timed stop seconds = Whys.Ended Causes.TurnsSpent None
+why_by (Causes.Session (Ended side)) field timed stop seconds = why_ended side (at timed side) seconds
+why_by (Causes.Session (Lost side)) field timed stop seconds = why_lost side (at timed side) seconds
+why_by (Causes.Session (Final side)) field timed stop seconds = Whys.Ended (Causes.Session (Final side)) None
+why_by (Causes.Session (Error side)) field timed stop seconds = Whys.Ended (Causes.Session (Error side)) None
+why_by (Causes.Session (Fault side code)) field timed stop seconds = Whys.Ended (Causes.Session (Fault side code)) field
+why_by (Causes.Session Stopped) field timed stop seconds = why_stopped stop
 
 -- the whole milliseconds from one moment until another; none without one of them
 abbrev pub milliseconds_between : Option Instant → Option Instant → Option ℕ
@@ -92,6 +99,7 @@ why_text (Whys.Ended (Causes.Session ending) field) = ending_text ending field
 why_text (Whys.Ended Causes.TurnsSpent field) = codes "turns spent"
 why_text (Whys.Silent side) = side_name side ++ codes " silent"
 why_text (Whys.Stalled side seconds) = side_name side ++ codes " took nothing for " ++ decimal seconds ++ codes " s"
+why_text (Whys.Refused side) = codes "too many refusals of " ++ side_name side
 why_text Whys.NoServer = codes "no server"
 
 abbrev pub notice_text : SessionNotice → List ℕ
@@ -132,9 +140,9 @@ end_notice bot now why account = Notices.Ended bot.number (lasted_until bot now)
 abbrev pub timed_of : {S : Type 0} → PerSide (Socket S) → PerSide Timed
 timed_of sides = record { bot = sides.bot.timed; server = sides.server.timed }
 
--- why a session is over whose sockets reported these timeouts
-abbrev pub why_retired : SessionEnd → PerSide Timed → ℕ → Why
-why_retired end timed stall_seconds = why_by end.cause end.fault_field timed stall_seconds
+-- why a session is over whose sockets reported these timeouts, and that was stopped for this, if it was
+abbrev pub why_retired : SessionEnd → PerSide Timed → Option StopCause → ℕ → Why
+why_retired end timed stop stall_seconds = why_by end.cause end.fault_field timed stop stall_seconds
 
 -- why a session is over whose server was not reached: since sessions are to end now, or not
 abbrev pub why_unreached : Bool → Why
@@ -159,6 +167,7 @@ end_cause_of (Whys.Ended Causes.TurnsSpent field) = EndCauses.TurnsSpent
 end_cause_of (Whys.Ended (Causes.Session ending) field) = ending_cause ending
 end_cause_of (Whys.Silent side) = EndCauses.Silent side
 end_cause_of (Whys.Stalled side seconds) = EndCauses.Stalled side
+end_cause_of (Whys.Refused side) = EndCauses.Refused side
 end_cause_of Whys.NoServer = EndCauses.NoServer
 
 -- the counts of a run after an accept that brought no bot, for this reason

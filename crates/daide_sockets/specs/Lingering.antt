@@ -1,6 +1,6 @@
 -- Streams that close in stages: the buffered bytes are written, writing ends, the bytes received are dropped, and the
 -- stream is released. (own)
-use Rattle.std.specs.Prelude.{◌≡◌, ◌⊎◌, ℕ, zero, suc, ◌+◌, ◌<◌, ◌||◌, min, nat_eq, nat_lt, if◌then◌else◌, Bool, true, false}
+use Rattle.std.specs.Prelude.{◌≡◌, ◌⊎◌, ℕ, zero, suc, ◌+◌, ◌<◌, ◌≤◌, ◌||◌, min, nat_eq, nat_lt, if◌then◌else◌, Bool, true, false}
 use Rattle.std.specs.Prelude.{List, [], ◌∷◌, ◌++◌, length, Option, Some, None, slice_get, slice_set, remove}
 use Rattle.std.specs.Duration.{as_nanos}
 use Rattle.std.specs.declared.time.Duration.{Duration}
@@ -11,6 +11,7 @@ use Rattle.daide_buffered_io.specs.declared.readiness.Readiness.{Readiness}
 use Rattle.daide_buffered_io.specs.Buffers.{Buffer, Passes, ReadsNothing, WritesNothing, IsBufferedPull, IsFlushed}
 use Rattle.daide_buffered_io.specs.Calls.{is_last_piece}
 use Rattle.daide_io.specs.Streams.{StreamCall}
+use Rattle.daide_sockets.specs.Sockets.{write_if}
 use Rattle.daide_sockets.specs.Table.{merged}
 use Rattle.daide_sockets.specs.Clock.{IsAfter, StallsNext, has_stalled, is_past, is_time_over}
 
@@ -84,12 +85,24 @@ IsWritingOver stream = stream.has_failed ≡ false → stream.write_buffer ≡ [
 abbrev pub Flushes : {S : Type 0} → (S → Option (List ℕ)) → (S → Option (List ℕ)) → Buffer S → Buffer S → Type 0
 Flushes to_give taken old new = Passes to_give taken old [] [] new × ReadsNothing to_give old new
 
--- One try to write, at this reading of the clock. A stalled peer is given up. Otherwise all buffered bytes are written
--- to the stream once, those that it doesn't take stay buffered, and it fails if the write does. Nothing else gives up.
+-- The last try to write to a peer, whose stall timeout is over. The buffered bytes are written once, whatever is known of
+-- the stream. If the peer takes none of them, or none is buffered, it is given up: its stream counts as failed. If it takes
+-- one, it is not.
+pub record TriesLast {S : Type 0} (calls : S → Option (List StreamCall)) (known : Readiness) (old : Buffer S)
+    (still : Readiness) (new : Buffer S) : Type 0 where
+  pub tried : Buffer S
+  pub written : IsWriting old → IsFlushed calls (write_if true known) old still tried
+  pub nothing : IsWritingOver old → (tried ≡ old) × (still ≡ write_if true known)
+  pub takes : length tried.write_buffer < length old.write_buffer → new ≡ tried
+  pub gives_up : length old.write_buffer ≤ length tried.write_buffer → new ≡ record tried { has_failed = true }
+
+-- One try to write, at this reading of the clock. It is the last one once the stall timeout of the peer is over. Before that
+-- all buffered bytes are written to the stream once, those that it doesn't take stay buffered, and it fails if the write
+-- does. Nothing else gives up.
 pub record TriesWriting {S : Type 0} (calls : S → Option (List StreamCall)) (now : Option Instant)
     (old new : ClosingStream S) : Type 0 where
-  pub gives_up : has_stalled old.stall_time now old.stalls_at ≡ true →
-      (new.stream ≡ record old.stream { has_failed = true }) × (new.known ≡ old.known)
+  pub last : has_stalled old.stall_time now old.stalls_at ≡ true →
+      TriesLast calls old.known old.stream new.known new.stream
   pub written : has_stalled old.stall_time now old.stalls_at ≡ false → IsWriting old.stream →
       IsFlushed calls old.known old.stream new.known new.stream
   pub nothing : has_stalled old.stall_time now old.stalls_at ≡ false → IsWritingOver old.stream →

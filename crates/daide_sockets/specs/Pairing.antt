@@ -207,7 +207,7 @@ Transits {S = S} to_give taken calls pair old (Connects place Failed) new = (arr
 Transits to_give taken calls pair old (Connects place Pending) new =
     StaysPendingIf (arrival_at old.arrivals place) old.arrivals place new.arrivals × (new.came ≡ old.came)
     × (new.closing ≡ old.closing)
-Transits to_give taken calls pair old (BeginsTurn place before after) new = new ≡ old
+Transits to_give taken calls pair old (BeginsTurn place account before after) new = new ≡ old
 Transits to_give taken calls pair old (Rests place ports rests) new = new ≡ old
 Transits to_give taken calls pair old (Retires place ports end) new =
     ClosesBoth to_give taken calls old.closing (pair ports) new.closing × (new.came ≡ old.came)

@@ -9,7 +9,7 @@ use Rattle.daide_sockets.specs.declared.admission.Acceptor.{Acceptor}
 use Rattle.daide_sockets.specs.Accepting.{is_bot_due}
 use Rattle.daide_sockets.specs.Clock.{IsInTimeFor, earlier}
 use Rattle.daide_sockets.specs.Control.{has_control_work, control_due}
-use Rattle.daide_sockets.specs.ControlSlots.{places, has_free, is_control_due, arming_control}
+use Rattle.daide_sockets.specs.ControlSlots.{has_free, is_control_due, arming_control}
 use Rattle.daide_sockets.specs.Lingering.{ClosingStream}
 use Rattle.daide_sockets.specs.declared.control.Control.{Control}
 use Rattle.daide_sockets.specs.declared.control_connection.ControlConnection.{ControlConnection}
@@ -93,8 +93,8 @@ IsPlaceInTime reading time (Some connection) =
 -- the end of a pause.
 pub record IsControlInTime {S : Type 0} (table : Table) (time : Option Duration) (control : Control S) :
     Type 0 where
-  pub connections : All (IsPlaceInTime table.reading time) (places control.slots)
-  pub listener : (listener : Listener) → has_free (places control.slots) ≡ true → control.listener ≡ Some listener →
+  pub connections : All (IsPlaceInTime table.reading time) control.slots
+  pub listener : (listener : Listener) → has_free control.slots ≡ true → control.listener ≡ Some listener →
       IsInTimeFor table.reading time (is_control_due table listener) listener.resumes_at
 
 -- each poll that may block is in time for the control socket that it watches, whatever it watches beside it

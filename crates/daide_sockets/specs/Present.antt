@@ -1,5 +1,5 @@
 -- The bots of a run that are there: those with a connect under way, and those of sessions. (own)
-use Rattle.std.specs.Prelude.{◌≡◌, ℕ, ◌+◌, ◌<◌, ◌==◌, nat_lt, true, List, [], ◌∷◌, ◌++◌, length, remove, slice_set, Option, Some, if◌then◌else◌, vec_capacity}
+use Rattle.std.specs.Prelude.{◌≡◌, ℕ, ◌+◌, ◌<◌, ◌==◌, nat_lt, Bool, true, List, [], ◌∷◌, ◌++◌, length, remove, slice_set, Option, Some, if◌then◌else◌, vec_capacity}
 use Rattle.std.specs.Net.Socket.{socket_ip}
 use Rattle.std.specs.declared.net.socket_addr.SocketAddr.{SocketAddr}
 use Rattle.std.specs.declared.time.Instant.{Instant}
@@ -26,6 +26,10 @@ without_at at list = if nat_lt at (length list) then remove list at else list
 -- the bots without the one with a number
 abbrev pub without_bot : ℕ → List Bot → List Bot
 without_bot number bots = without_at (position_of number bots) bots
+
+-- the session with this number is there: its bot is present
+abbrev pub is_there : ℕ → List Bot → Bool
+is_there number bots = nat_lt (position_of number bots) (length bots)
 
 -- the hosts of the bots
 abbrev pub hosts_of : List Bot → List Host

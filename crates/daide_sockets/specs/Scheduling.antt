@@ -17,8 +17,9 @@ use Rattle.daide_status.specs.declared.snapshot.SessionRow.{SessionRow}
 use Rattle.daide_sockets.specs.declared.admission.Acceptor.{Acceptor}
 use Rattle.daide_sockets.specs.declared.control.Control.{Control}
 use Rattle.daide_sockets.specs.declared.ports.SocketPorts.{SocketPorts}
+use Rattle.daide_sockets.specs.declared.present.Bot.{Bot}
 use Rattle.daide_sockets.specs.Accepting.{is_bot_due, may_connect, round_begun, shut_if, AcceptsThenConnects, ClosesOrNot}
-use Rattle.daide_sockets.specs.ControlSlots.{BeginsRound, Each, PlaceShows, places}
+use Rattle.daide_sockets.specs.ControlSlots.{BeginsRound, Each, PlaceShows}
 use Rattle.daide_sockets.specs.PollTimes.{listener_armed, others_armed}
 use Rattle.daide_sockets.specs.Lingering.{ClosingList, LooksAround, in_pass}
 use Rattle.daide_sockets.specs.Pairing.{Arriving, Paired, RunSockets, is_vacant, arrival_at, pending_connects, ClosesAt, ClosesBothAt, Transits}
@@ -134,7 +135,7 @@ Schedules transition timers old (Connects place Failed) new = SameSchedule old n
 Schedules transition timers old (Connects place Pending) new =
     SameSchedule old new × RestsForConnect (arrival_at new.arrivals place) old.table place new.table
 Schedules transition timers old (Shows ports status) new = SameSchedule old new
-Schedules transition timers old (BeginsTurn place before after) new = SameSchedule old new
+Schedules transition timers old (BeginsTurn place account before after) new = SameSchedule old new
 Schedules transition timers old (Rests place ports rests) new = SameSchedule old new
 Schedules transition timers old (Retires place ports end) new = SameSchedule old new
 Schedules transition timers old (Notifies notice) new = SameSchedule old new
@@ -156,7 +157,7 @@ ClosesByClock to_give taken calls pair old (Connects place (Ready ports)) new = 
 ClosesByClock to_give taken calls pair old (Connects place Pending) new = new.closing ≡ old.closing
 ClosesByClock to_give taken calls pair old (Accepts place came) new = new.closing ≡ old.closing
 ClosesByClock to_give taken calls pair old (Shows ports status) new = new.closing ≡ old.closing
-ClosesByClock to_give taken calls pair old (BeginsTurn place before after) new = new.closing ≡ old.closing
+ClosesByClock to_give taken calls pair old (BeginsTurn place account before after) new = new.closing ≡ old.closing
 ClosesByClock to_give taken calls pair old (Rests place ports rests) new = new.closing ≡ old.closing
 ClosesByClock to_give taken calls pair old (Notifies notice) new = new.closing ≡ old.closing
 
@@ -170,14 +171,14 @@ pub record AwaitsBots {N C S : Type 0} (transition : N → NetworkCall C → N �
 
 -- ---- orders
 
--- the status of a run, some of whose bots are there, and some of which had no server, with what it knows of the server and counted
-abbrev pub IsStatusOf : {N S : Type 0} → RunState N S → RunStatus → Type 0
-IsStatusOf state run = (present unreached most : ℕ) × (server : ServerStatus) × (counts : RunCounts) × IsRunStatus state.acceptor.came present (pending_connects state.arrivals)
+-- the status of a run, this many of whose bots are there, and some of which had no server, with what it knows of the server and counted
+abbrev pub IsStatusOf : {N S : Type 0} → RunState N S → ℕ → RunStatus → Type 0
+IsStatusOf state present run = (unreached most : ℕ) × (server : ServerStatus) × (counts : RunCounts) × IsRunStatus state.acceptor.came present (pending_connects state.arrivals)
     unreached (nat_le most present && is_bot_due state.table state.acceptor) state.control.stops_accepting
     (or_zero (seconds_between state.control.started_at state.table.reading)) server counts run
 
 -- The orders of a poll. It polled the network once, and read the clock. By what was reported of the control socket then, and by
--- that reading, the control socket began its round: each order is what a connection requested. At last the network closed the
+-- that reading, with the bots that are there, the control socket began its round: each order is what a connection requested. At last the network closed the
 -- listener for bots, or made no call.
 pub record BringsOrders {N S : Type 0} (transition : N → NetworkCall S → N → Type 0) (to_give taken : S → Option (List ℕ))
     (calls : S → Option (List StreamCall)) (old : RunState N S) (orders : Orders) (new : RunState N S) : Type 0 where
@@ -189,10 +190,11 @@ pub record BringsOrders {N S : Type 0} (transition : N → NetworkCall S → N �
   pub reading : table.reading ≡ reported.reading
   pub places : length table.deadlines ≡ length old.table.deadlines
   pub reports : KeepsReportsOf (IsFixedRow old.table) reported table
+  pub bots : List Bot
   pub run : RunStatus
-  pub status : IsStatusOf (record old { table = table; acceptor = round_begun reported.reading old.acceptor }) run
+  pub status : IsStatusOf (record old { table = table; acceptor = round_begun reported.reading old.acceptor }) (length bots) run
   pub heard : N
-  pub round : BeginsRound transition to_give taken calls run table polled old.control orders heard new.control
+  pub round : BeginsRound transition to_give taken calls run bots table polled old.control orders heard new.control
   pub closes : ClosesOrNot transition heard new.network
 
 -- What a system call does to the control socket. A poll brings the orders of its connections. The row of a session is shown to
@@ -203,11 +205,11 @@ Controls transition to_give taken calls ports_in old (Polls may_block woken orde
     BringsOrders transition to_give taken calls old orders new
 Controls transition to_give taken calls ports_in old (Shows ports status) new = (row : SessionRow)
     × IsSessionRow old.table.reading (ports_in ports).identity (ports_in ports).sides status row
-    × Each (PlaceShows row) (places old.control.slots) (places new.control.slots)
+    × Each (PlaceShows row) old.control.slots new.control.slots
     × (new.control ≡ record old.control { slots = new.control.slots })
 Controls transition to_give taken calls ports_in old (Accepts place came) new = new.control ≡ old.control
 Controls transition to_give taken calls ports_in old (Connects place connect) new = new.control ≡ old.control
-Controls transition to_give taken calls ports_in old (BeginsTurn place before after) new = new.control ≡ old.control
+Controls transition to_give taken calls ports_in old (BeginsTurn place account before after) new = new.control ≡ old.control
 Controls transition to_give taken calls ports_in old (Rests place ports rests) new = new.control ≡ old.control
 Controls transition to_give taken calls ports_in old (Retires place ports end) new = new.control ≡ old.control
 Controls transition to_give taken calls ports_in old (Notifies notice) new = new.control ≡ old.control

@@ -8,6 +8,11 @@ abbrev pub read_if : Bool → Readiness → Readiness
 read_if true known = record known { may_read = true }
 read_if false known = known
 
+-- the readiness of a socket that is written once more in any case, if that is so
+abbrev pub write_if : Bool → Readiness → Readiness
+write_if true known = record known { may_write = true }
+write_if false known = known
+
 -- The readiness of a socket that is followed under another key, if that is accepted. Otherwise it counts as readable and
 -- writable, since nothing more is reported of it.
 abbrev pub after_move : Bool → Readiness → Readiness

@@ -86,9 +86,9 @@ without_report table key =
 -- ---- the rows of closing sockets
 
 -- The key of the first row of a closing socket. Before it are the two rows of each place, and those of two listeners and
--- of four control connections.
+-- of eight control connections.
 abbrev pub first_closing : Table → ℕ
-first_closing table = 2 * length table.deadlines + 6
+first_closing table = 2 * length table.deadlines + 10
 
 -- the key of the listener for bots
 abbrev pub listener_key : Table → ℕ
@@ -98,7 +98,7 @@ listener_key table = 2 * length table.deadlines
 abbrev pub control_key : Table → ℕ
 control_key table = 2 * length table.deadlines + 1
 
--- the key of the control connection with this number, from 0 to 3
+-- the key of the control connection with this number, from 0 to 7
 abbrev pub control_connection_key : Table → ℕ → ℕ
 control_connection_key table number = 2 * length table.deadlines + 2 + number
 
@@ -151,7 +151,7 @@ new_table places closing = record {
   due = None;
   armed_work = false;
   armed_due = None;
-  rows = replicate (2 * places + 6 + closing) free_row;
+  rows = replicate (2 * places + 10 + closing) free_row;
 }
 
 -- a place rests until this deadline

@@ -1,5 +1,5 @@
 -- The timers of a session: when its timeouts start and expire, by the calls of its ports. (own)
-use Rattle.std.specs.Prelude.{◌≡◌, ◌≢◌, ◌⊎◌, ◌||◌, ℕ, ◌+◌, ◌<◌, nat_lt, Bool, true, false, List, length, Option, Some, None}
+use Rattle.std.specs.Prelude.{◌≡◌, ◌≢◌, ◌⊎◌, ◌||◌, ℕ, ◌+◌, ◌<◌, ◌≤◌, nat_lt, Bool, true, false, List, length, Option, Some, None}
 use Rattle.std.specs.declared.time.Duration.{Duration}
 use Rattle.std.specs.declared.time.Instant.{Instant}
 use Rattle.daide_frame.specs.declared.side.Side.{Side}
@@ -84,13 +84,17 @@ pub record FlushesInTime {S : Type 0} (reading : Option Instant) (old new : Sock
   pub stall : StallsAfterFlush reading old new
   pub full : old.readiness.may_write ≡ false → StallGoesOn old new
 
--- A turn begins at this reading of the clock. A peer whose stall timeout is over is given up: its writes fail. For any
--- other, what is held was written, or stays held.
+-- A turn begins at this reading of the clock. A peer whose stall timeout is over, and which takes no byte of what is held
+-- when the turn begins, is given up: its writes fail. One that takes a byte is not. For any other peer, what is held was
+-- written, or stays held. `BeginsWriting` says that a write is tried.
 pub record BeginsInTime {S : Type 0} (reading : Option Instant) (old new : Socket S) : Type 0 where
   pub kept : KeepsTimers reading old new
   pub stall : StallsAfterFlush reading old new
   pub gives_up : has_stalled old.stall_time reading old.stalls_at ≡ true →
+      length old.stream.write_buffer ≤ length new.stream.write_buffer →
       (new.stream.has_failed ≡ true) × (new.stalls_at ≡ None)
+  pub goes_on : has_stalled old.stall_time reading old.stalls_at ≡ true →
+      length new.stream.write_buffer < length old.stream.write_buffer → new.stream.has_failed ≡ false
 
 -- The stall timeout after a put of this many bytes. If some of them were not accepted, or bytes are held for the peer, it
 -- runs from then on. It goes on if the peer took no byte: then all that was held, and all that was accepted, is held. Once

@@ -13,7 +13,7 @@ use Rattle.daide_io.specs.declared.ports.Put.{Put}
 use Rattle.daide_io.specs.declared.ports.Put.TheVariants.{Took}
 use Rattle.daide_io.specs.declared.system.Connect.{Connect}
 use Rattle.daide_io.specs.declared.system.Connect.TheVariants.{Ready, Failed, Pending}
-use Rattle.daide_sockets.specs.Clock.{earlier, next_deadline, is_past}
+use Rattle.daide_sockets.specs.Clock.{earlier, has_stalled, next_deadline, is_past}
 use Rattle.daide_io.specs.Network.{NetworkCall, ChecksDescriptors, StopsListening, AcceptsControl, BeginsConnect, Follows, AsksConnect}
 use Rattle.daide_io.specs.Ports.{PortCall, TurnBegins, Clock, Pulled, Offered}
 use Rattle.daide_io.specs.ReadyQueue.{is_among}
@@ -23,8 +23,8 @@ use Rattle.daide_buffered_io.specs.declared.readiness.Readiness.{Readiness}
 use Rattle.daide_buffered_io.specs.Buffers.{IsFlushed}
 use Rattle.daide_buffered_io.specs.Calls.{OnlyPuts}
 use Rattle.daide_sockets.specs.declared.socket.Socket.{Socket}
-use Rattle.daide_sockets.specs.Lingering.{IsWriting}
-use Rattle.daide_sockets.specs.Sockets.{has_socket_work}
+use Rattle.daide_sockets.specs.Lingering.{IsWriting, TriesLast}
+use Rattle.daide_sockets.specs.Sockets.{has_socket_work, write_if}
 use Rattle.daide_sockets.specs.Table.{arming_all}
 use Rattle.daide_sockets.specs.Table.{Table, AreDeadlinesBounded, PollsOnce, IsPollTime, merged, report_at, is_reported_at}
 use Rattle.daide_sockets.specs.Table.{key_of, listener_key, deadline_at, resting, without_reports}
@@ -63,11 +63,20 @@ pub record IsOffered {S : Type 0} (calls : S → Option (List StreamCall)) (byte
   pub none_taken : put ≡ Took 0 → 0 < length bytes → new.tries_again ≡ false → new.readiness.may_write ≡ false
   pub unread : StaysUnread calls old new
 
+-- A turn begins for a socket at this reading of the clock, by what is known of it. It is put to, if at all. If the stall
+-- timeout of its peer is over, what is held is written in any case, and the peer is given up if it takes none of it.
+abbrev pub BeginsWriting : {S : Type 0} → (S → Option (List StreamCall)) → Option Instant → Readiness → Socket S → Socket S →
+    Type 0
+BeginsWriting calls reading known old new =
+    OnlyPuts calls (write_if (has_stalled old.stall_time reading old.stalls_at) known) old.stream.stream
+    new.readiness new.stream.stream
+    × (has_stalled old.stall_time reading old.stalls_at ≡ true → TriesLast calls known old.stream new.readiness new.stream)
+
 -- A turn began for a socket: it keeps its row, reports of polls were added to what is known of it, and then it was put to,
--- if at all.
+-- if at all (`BeginsWriting`).
 abbrev pub BeginsToSettle : {S : Type 0} → (S → Option (List StreamCall)) → Socket S → Socket S → Type 0
-BeginsToSettle calls old new = (new.key ≡ old.key) × (report : Readiness)
-    × OnlyPuts calls (merged old.readiness report) old.stream.stream new.readiness new.stream.stream
+BeginsToSettle calls old new = (new.key ≡ old.key) × (reading : Option Instant) × (report : Readiness)
+    × BeginsWriting calls reading (merged old.readiness report) old new
 
 -- What the sockets of a session know after a call of its ports. From the socket of the side that the call does not name
 -- nothing is read.
@@ -171,8 +180,8 @@ GoesBy {N} {C} kind transition old new =
 -- more is in the rows.
 pub record TakesReports {S : Type 0} (calls : S → Option (List StreamCall)) (old : Table) (place : ℕ)
     (before after : SessionSockets S) (new : Table) : Type 0 where
-  pub writes : (side : Side) → OnlyPuts calls (merged (socket_at before side).readiness (report_at old (key_of place side)))
-      (socket_at before side).stream.stream (socket_at after side).readiness (socket_at after side).stream.stream
+  pub writes : (side : Side) → BeginsWriting calls after.reading
+      (merged (socket_at before side).readiness (report_at old (key_of place side))) (socket_at before side) (socket_at after side)
   pub table : new ≡ without_reports old place
 
 -- ---- a poll
@@ -225,7 +234,7 @@ WakesBy transition calls view old (Accepts place came) new = KeepsOtherPlaces ol
 WakesBy transition calls view old (Connects place connect) new =
     GoesBy is_of_connect transition old.0 new.0 × KeepsOtherPlaces old.1 place new.1
     × KeepsReports view connect old.1 place new.1
-WakesBy transition calls view old (BeginsTurn place before after) new =
+WakesBy transition calls view old (BeginsTurn place account before after) new =
     (new.0 ≡ old.0) × TakesReports calls old.1 place (view before) (view after) new.1
 WakesBy transition calls view old (Rests place ports rests) new =
     (new.0 ≡ old.0) × RestsFor rests old.1 place (view ports) new.1

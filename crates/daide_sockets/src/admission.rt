@@ -382,7 +382,8 @@ pub(crate) struct Unreached<'w, S: Drop> {
 }
 
 /// Starts a connect to the next address that permits one, and returns its connection, followed under this key. Returns
-/// `None` if no address is left. `failure` is then the error of the last connect that did not begin.
+/// `None` if no address is left. `failure` is then the error of the last connect that did not begin, or `Other` if the system
+/// does not follow its connection.
 fn begun<N: Network>(
     poller: &mut Poller<N>,
     servers: &[SocketAddr],
@@ -399,7 +400,6 @@ fn begun<N: Network>(
 {
     while let Some(address) = servers.get(*tried) {
         *tried += 1;
-        *failure = None;
         let mut stream = match poller.network.connect(*address) {
             Ok(stream) => stream,
             Err(error) => {
@@ -408,8 +408,10 @@ fn begun<N: Network>(
             }
         };
         if poller.follow(&mut stream, key) {
+            *failure = None;
             return Some(stream);
         }
+        *failure = Some(ErrorKind::Other);
     }
     None
 }
@@ -555,6 +557,13 @@ impl<'w, S: Duplex + Drop> PendingConnection<'w, S> {
             self.server = None;
             self.failure = None;
         }
+    }
+
+    /// Returns the number of the session of its bot.
+    pub(crate) fn number(&self) -> u32
+        ensures { result ≡ self.now.identity.number }
+    {
+        self.identity.number
     }
 
     /// Returns its nearest deadline: of the present address, or of all.

@@ -2,7 +2,7 @@
 
 ghost use Rattle.std.specs.Prelude.{◌≡◌, false, IsNone};
 ghost use Rattle.std.specs.Duration.{as_nanos};
-ghost use Rattle.daide_sockets.specs.Clock.{earlier, is_past, is_time_over, IsAfter, IsIdleTime, IsStallEnd, StallsNext};
+ghost use Rattle.daide_sockets.specs.Clock.{earlier, has_stalled, is_past, is_time_over, IsAfter, IsIdleTime, IsStallEnd, StallsNext};
 
 use std::time::{Duration, Instant};
 
@@ -25,6 +25,17 @@ pub(crate) fn is_past(now: Option<Instant>, moment: Option<Instant>) -> bool
         (Some(now), Some(moment)) => now.checked_duration_since(moment).is_some(),
         _ => false,
     }
+}
+
+/// Returns true if a peer with this timeout, whose moment is given, is late at the last reading of the clock.
+pub(crate) fn has_stalled(
+    time: Option<Duration>,
+    now: Option<Instant>,
+    moment: Option<Instant>,
+) -> bool
+    ensures { result ≡ has_stalled time now moment }
+{
+    time.is_some() && is_past(now, moment)
 }
 
 /// Returns true if a time that ends at this moment is over at the last reading of the clock; true without a moment.

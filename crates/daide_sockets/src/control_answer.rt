@@ -1,8 +1,9 @@
 //! The answer on a control connection.
 
 ghost use Rattle.std.specs.Prelude.{◌≡◌};
-ghost use Rattle.daide_sockets.specs.ControlAnswer.{reply_text, Begins, Adds, Finishes};
+ghost use Rattle.daide_sockets.specs.ControlAnswer.{reply_text, ordered_by, waits_by, Begins, Adds, Finishes, SaysNoSession};
 
+use crate::control_request::RequestedStop;
 use daide_status::{Format, RunStatus, SessionRow, StatusText};
 use std::alloc::Global;
 
@@ -12,15 +13,25 @@ const UNKNOWN_REQUEST: &[u8] = b"unknown request\n";
 /// The answer if memory for another one is refused.
 const OUT_OF_MEMORY: &[u8] = b"out of memory\n";
 
+/// The answer to a stop whose connection stays until what it stops is over.
+const STOPPING: &[u8] = b"stopping\n";
+
+/// The answer to a stop whose connection does not stay, since as many stay as may.
+const TOO_MANY_WAIT: &[u8] = b"too many wait\n";
+
 /// An answer.
 #[derive(Drop)]
 pub(crate) enum Answer {
-    /// The text of a status.
-    Status(Vec<u8>),
+    /// The text of a status, or that a session is not there.
+    Text(Vec<u8>),
     /// What was received is no request.
     UnknownRequest,
     /// Memory for the text was refused.
     OutOfMemory,
+    /// The stop is carried out, and its connection stays.
+    Stopping(RequestedStop),
+    /// As many stops wait as may. That of the run is carried out all the same.
+    TooManyWait(RequestedStop),
 }
 
 impl Answer {
@@ -29,9 +40,33 @@ impl Answer {
         ensures { result.now ≡ reply_text self.now }
     {
         match self {
-            Answer::Status(text) => text.as_slice(),
+            Answer::Text(text) => text.as_slice(),
             Answer::UnknownRequest => UNKNOWN_REQUEST,
             Answer::OutOfMemory => OUT_OF_MEMORY,
+            Answer::Stopping(_) => STOPPING,
+            Answer::TooManyWait(_) => TOO_MANY_WAIT,
+        }
+    }
+
+    /// Returns the stop that is carried out, if one is.
+    pub(crate) fn order(&self) -> Option<RequestedStop>
+        ensures { result ≡ ordered_by self.now }
+    {
+        match self {
+            Answer::Stopping(order) => Some(*order),
+            Answer::TooManyWait(RequestedStop::Finish) => Some(RequestedStop::Finish),
+            Answer::TooManyWait(RequestedStop::Now) => Some(RequestedStop::Now),
+            _ => None,
+        }
+    }
+
+    /// Returns the stop that its connection waits for, if it does.
+    pub(crate) fn waits(&self) -> Option<RequestedStop>
+        ensures { result ≡ waits_by self.now }
+    {
+        match self {
+            Answer::Stopping(order) => Some(*order),
+            _ => None,
         }
     }
 }
@@ -63,7 +98,17 @@ pub(crate) fn finished(status: Option<StatusText>) -> Answer
         return Answer::OutOfMemory;
     };
     match text.finish() {
-        Ok(text) => Answer::Status(text),
+        Ok(text) => Answer::Text(text),
+        Err(_) => Answer::OutOfMemory,
+    }
+}
+
+/// Returns the answer that the session with this number is not there.
+pub(crate) fn no_session(alloc: Global, number: u32) -> Answer
+    ensures { SaysNoSession number result }
+{
+    match format!(in alloc; "no session {number}\n") {
+        Ok(text) => Answer::Text(text.into_bytes()),
         Err(_) => Answer::OutOfMemory,
     }
 }

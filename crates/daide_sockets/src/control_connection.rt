@@ -1,14 +1,19 @@
-//! One connection of the control socket: it reads a request and writes the answer, or stays open until the run ends.
+//! One connection of the control socket: it reads a request and writes the answer. After a stop it stays open until what it stops
+//! is over.
 
-ghost use Rattle.std.specs.Prelude.{◌≡◌, [], None};
+ghost use Rattle.std.specs.Prelude.{◌≡◌, [], None, false, true};
 ghost use Rattle.daide_sockets.specs.Table.{merged};
 ghost use Rattle.daide_sockets.specs.Clock.{is_past};
-ghost use Rattle.daide_sockets.specs.Control.{Hears, Receives, BeginsReply, stage_after, WritesOn, Completes, StaysOpen, Advances, ShowsOn};
-ghost use Rattle.daide_sockets.specs.Control.{has_control_work, control_due, gathers_at, stops_at, stops_now_at};
+ghost use Rattle.daide_sockets.specs.Control.{Hears, Receives, BeginsReply, stage_after, AnswersStop, MakesSure, is_session_over};
+ghost use Rattle.daide_sockets.specs.Control.{WritesOn, Completes, StaysOpen, Advances, ShowsOn};
+ghost use Rattle.daide_sockets.specs.Control.{has_control_work, control_due, gathers_at};
+ghost use Rattle.daide_sockets.specs.ControlAnswer.{ordered_by};
+ghost use Rattle.daide_sockets.specs.ControlSlots.{is_waiting};
 
-use crate::clock::is_past;
-use crate::control_answer::{Answer, add, begun, finished};
-use crate::control_request::{Judgement, LONGEST_REQUEST, at_end, judgement_of};
+use crate::clock::{after, is_past};
+use crate::control_answer::{Answer, add, begun, finished, no_session};
+use crate::control_request::{Judgement, LONGEST_REQUEST, RequestedStop, at_end, judgement_of};
+use crate::present::Present;
 use crate::table::merged;
 use arrayvec::ArrayVec;
 use daide_buffered_io::calls::{pull_from, put_to};
@@ -17,19 +22,34 @@ use daide_io::duplex::Duplex;
 use daide_io::ports::{Pull, Put};
 use daide_status::{ControlRequest, RunStatus, SessionRow, StatusText};
 use std::alloc::Global;
-use std::time::Instant;
+use std::time::{Duration, Instant};
+
+/// The milliseconds after which a stop that waits is looked at again: whether its session is over.
+const LOOK_MILLIS: u64 = 100;
 
 /// What a control connection does.
 #[derive(Clone, Copy)]
 pub(crate) enum Stage {
     /// It reads a request.
     Reads,
+    /// It requested this stop, and makes sure that its client is still there.
+    Confirms(RequestedStop),
     /// It gathers the status of each session.
     Gathers,
     /// It writes its answer, of which this many bytes were written.
     Writes(usize),
-    /// It requested a stop, and stays open until the run ends. `true` if sessions are to end now.
-    Stays(bool),
+    /// Its stop waits until what it stops is over.
+    Stays(RequestedStop),
+}
+
+/// What a round gives to the control connections.
+#[derive(Clone, Copy)]
+pub(crate) struct RoundView<'a> {
+    pub alloc: Global,
+    /// The status of the run.
+    pub run: &'a RunStatus,
+    /// The bots that are there.
+    pub present: &'a Present,
 }
 
 /// A connection of the control socket.
@@ -38,7 +58,7 @@ pub(crate) struct ControlConnection<S: Duplex + Drop> {
     stream: S,
     /// What is known of it without a system call.
     readiness: Readiness,
-    /// The moment at which it is closed, unless it requested a stop; `None` for never.
+    /// The moment at which it is closed, or looked at again if its stop waits for a session; `None` for never.
     closes_at: Option<Instant>,
     /// The bytes received so far.
     line: ArrayVec<u8, LONGEST_REQUEST>,
@@ -102,8 +122,15 @@ impl<S: Duplex + Drop> ControlConnection<S> {
                 self.status = begun(alloc, format, run);
                 self.stage = Stage::Gathers;
             }
-            Judgement::Requests(ControlRequest::Stop) => self.stage = Stage::Stays(false),
-            Judgement::Requests(ControlRequest::StopNow) => self.stage = Stage::Stays(true),
+            Judgement::Requests(ControlRequest::Stop) => {
+                self.stage = Stage::Confirms(RequestedStop::Finish);
+            }
+            Judgement::Requests(ControlRequest::StopNow) => {
+                self.stage = Stage::Confirms(RequestedStop::Now);
+            }
+            Judgement::Requests(ControlRequest::StopSession(number)) => {
+                self.stage = Stage::Confirms(RequestedStop::Session(number));
+            }
         }
     }
 
@@ -118,37 +145,99 @@ impl<S: Duplex + Drop> ControlConnection<S> {
     }
 
     /// Writes the rest of its answer once, after the bytes that were written before. Returns false if it is written
-    /// then, or if the write failed.
-    fn write_on(&mut self, written: usize) -> bool
-        ensures { WritesOn S.to_give S.taken S.calls self.old written result self.new }
+    /// then and no stop waits, or if the write failed.
+    fn write_on(&mut self, written: usize, now: Option<Instant>) -> bool
+        ensures { WritesOn S.to_give S.taken S.calls now self.old written result self.new }
     {
         let text = self.answer.as_slice();
         let from = written.min(text.len());
         let rest = &text[from..];
         let left = rest.len();
-        match put_to(&mut self.stream, &mut self.readiness, rest) {
-            Put::Took(count) => {
-                self.stage = Stage::Writes(from + count);
-                count < left
-            }
-            Put::Failed => false,
+        let Put::Took(count) = put_to(&mut self.stream, &mut self.readiness, rest) else {
+            return false;
+        };
+        if count < left {
+            self.stage = Stage::Writes(from + count);
+            return true;
         }
+        let Some(order) = self.answer.waits() else {
+            return false;
+        };
+        self.stage = Stage::Stays(order);
+        self.closes_at = after(now, Duration::from_millis(LOOK_MILLIS));
+        true
     }
 
     /// Finishes the status, and writes it once. Returns false if it is written then, or if the write failed.
-    fn complete(&mut self) -> bool
-        ensures { Completes S.to_give S.taken S.calls self.old result self.new }
+    fn complete(&mut self, now: Option<Instant>) -> bool
+        ensures { Completes S.to_give S.taken S.calls now self.old result self.new }
     {
         self.answer = finished(self.status.take());
-        self.write_on(0)
+        self.write_on(0, now)
     }
 
-    /// Reads once after a stop was requested, and returns false if the client sent something or ended.
-    fn is_quiet(&mut self) -> bool
-        ensures { StaysOpen S.to_give S.taken S.calls self.old result self.new }
+    /// Returns the answer to a stop whose client is there, if one more stop may wait or not. One that ends all sessions waits in
+    /// any case.
+    fn answer_to(view: RoundView<'_>, has_room: bool, order: RequestedStop) -> Answer
+        ensures { AnswersStop view.entry.present.now.bots.items has_room order result }
+    {
+        match order {
+            RequestedStop::Now => return Answer::Stopping(order),
+            RequestedStop::Session(number) if !view.present.has(number) => {
+                return no_session(view.alloc, number);
+            }
+            RequestedStop::Session(_) | RequestedStop::Finish => {}
+        }
+        if has_room {
+            Answer::Stopping(order)
+        } else {
+            Answer::TooManyWait(order)
+        }
+    }
+
+    /// Reads once after a stop, and answers it if its client is there: at once if the stop waits, since the run may end with this
+    /// round. Returns false if the client is gone, or if the write failed.
+    fn make_sure(
+        &mut self,
+        view: RoundView<'_>,
+        has_room: bool,
+        order: RequestedStop,
+        now: Option<Instant>,
+    ) -> bool
+        requires { self.old.stage ≡ Stage.Confirms order }
+        ensures { MakesSure S.to_give S.taken S.calls now view.entry.present.now.bots.items has_room order self.old result self.new }
+    {
+        match pull_from(&mut self.stream, &mut self.readiness, &mut [0; 1]) {
+            Pull::Ended => false,
+            Pull::Got(_) => true,
+            Pull::Idle => {
+                self.answer = ControlConnection::<S>::answer_to(view, has_room, order);
+                if self.answer.waits().is_some() {
+                    return self.write_on(0, now);
+                }
+                self.stage = Stage::Writes(0);
+                true
+            }
+        }
+    }
+
+    /// Reads once while a stop waits, and returns false if the client sent something or ended.
+    fn is_quiet(&mut self, now: Option<Instant>) -> bool
+        ensures { StaysOpen S.to_give S.taken S.calls now self.old result self.new }
     {
         let pull = pull_from(&mut self.stream, &mut self.readiness, &mut [0; 1]);
+        self.closes_at = after(now, Duration::from_millis(LOOK_MILLIS));
         matches!(pull, Pull::Idle)
+    }
+
+    /// Returns whether the session that a stop ends is over.
+    fn is_session_over(view: RoundView<'_>, order: RequestedStop) -> bool
+        ensures { result ≡ is_session_over view.entry.present.now.bots.items order }
+    {
+        match order {
+            RequestedStop::Finish | RequestedStop::Now => false,
+            RequestedStop::Session(number) => !view.present.has(number),
+        }
     }
 
     /// Returns whether its time is over at this reading of the clock; never, if it could not be read when it was accepted.
@@ -161,32 +250,35 @@ impl<S: Duplex + Drop> ControlConnection<S> {
     /// Makes the step of a round at this reading of the clock, and returns whether the connection stays open.
     ///
     /// `advances`: it reads once, of a request of at most 64 bytes, or writes its answer once. It is closed two seconds
-    /// after it was accepted, and before that once its answer is written. After it requested a stop it stays open until
+    /// after it was accepted, and before that once its answer is written. A stop counts only if a further read finds nothing:
+    /// at the end of the stream its client is gone, and it is not carried out. It is answered that the session is not there, that
+    /// too many stops wait, or that it is carried out. Then it stays open until the session that it stops is over, or until
     /// its client sends something or ends.
-    pub(crate) fn advance(&mut self, alloc: Global, run: &RunStatus, now: Option<Instant>) -> bool
-        ensures advances { Advances S.to_give S.taken S.calls run.now now self.old result self.new }
+    pub(crate) fn advance(
+        &mut self,
+        view: RoundView<'_>,
+        has_room: bool,
+        now: Option<Instant>,
+    ) -> bool
+        ensures advances { Advances S.to_give S.taken S.calls view.entry.run.now view.entry.present.now.bots.items has_room now self.old
+            result self.new }
     {
+        let is_late = self.is_late(now);
         match self.stage {
-            Stage::Stays(_) => self.is_quiet(),
-            Stage::Reads => {
-                if self.is_late(now) {
+            Stage::Stays(order) => {
+                if ControlConnection::<S>::is_session_over(view, order) {
                     return false;
                 }
-                self.receive(alloc, run);
+                self.is_quiet(now)
+            }
+            _ if is_late => false,
+            Stage::Reads => {
+                self.receive(view.alloc, view.run);
                 true
             }
-            Stage::Gathers => {
-                if self.is_late(now) {
-                    return false;
-                }
-                self.complete()
-            }
-            Stage::Writes(written) => {
-                if self.is_late(now) {
-                    return false;
-                }
-                self.write_on(written)
-            }
+            Stage::Confirms(order) => self.make_sure(view, has_room, order, now),
+            Stage::Gathers => self.complete(now),
+            Stage::Writes(written) => self.write_on(written, now),
         }
     }
 
@@ -212,18 +304,18 @@ impl<S: Duplex + Drop> ControlConnection<S> {
     {
         match self.stage {
             Stage::Reads | Stage::Stays(_) => self.readiness.may_read,
-            Stage::Gathers => true,
+            Stage::Confirms(_) | Stage::Gathers => true,
             Stage::Writes(_) => self.readiness.may_write,
         }
     }
 
-    /// Returns the moment at which it is closed at the latest; `None` for never.
+    /// Returns the moment at which it is closed or looked at again at the latest; `None` for never.
     pub(crate) fn due(&self) -> Option<Instant>
         ensures { result ≡ control_due self.now }
     {
         match self.stage {
-            Stage::Stays(_) => None,
-            Stage::Reads | Stage::Gathers | Stage::Writes(_) => self.closes_at,
+            Stage::Stays(RequestedStop::Finish | RequestedStop::Now) => None,
+            _ => self.closes_at,
         }
     }
 
@@ -234,14 +326,16 @@ impl<S: Duplex + Drop> ControlConnection<S> {
         matches!(self.stage, Stage::Gathers)
     }
 
-    /// Returns whether it requested a stop, and whether sessions are to end now.
-    pub(crate) fn stops(&self) -> (bool, bool)
-        ensures stops { result.0 ≡ stops_at self.now.stage }
-        ensures at_once { result.1 ≡ stops_now_at self.now.stage }
+    /// Returns the stop that it requested and that is carried out, if there is one.
+    pub(crate) fn order(&self) -> Option<RequestedStop>
+        ensures { result ≡ ordered_by self.now.answer }
     {
-        match self.stage {
-            Stage::Stays(at_once) => (true, at_once),
-            Stage::Reads | Stage::Gathers | Stage::Writes(_) => (false, false),
-        }
+        self.answer.order()
+    }
+    /// Returns whether it is that of a stop that waits, or whose line is still to be written.
+    pub(crate) fn waits(&self) -> bool
+        ensures { result ≡ is_waiting self.now }
+    {
+        self.answer.waits().is_some()
     }
 }

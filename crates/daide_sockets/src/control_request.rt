@@ -20,6 +20,17 @@ pub(crate) enum Judgement {
     Unfinished,
 }
 
+/// A stop that an operator requested.
+#[derive(Clone, Copy)]
+pub(crate) enum RequestedStop {
+    /// The run accepts no further bot, and ends when its last session is over.
+    Finish,
+    /// The run accepts no further bot, and ends its sessions.
+    Now,
+    /// The session with this number ends.
+    Session(u32),
+}
+
 /// Returns the position of the first line feed; `None` if there is none.
 fn line_end(bytes: &[u8]) -> Option<usize>
     ensures { result ≡ line_end bytes.now }

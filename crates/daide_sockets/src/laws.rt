@@ -52,8 +52,8 @@ pub fn sockets_are_accounted<P: Ports, S: Duplex + Drop>()
 /// (`ClosesByClock`).
 ///
 /// While the clock goes on it has a deadline that is at most the stall timeout after it was advanced last, or a second once
-/// its writing is over. As long as it closes, it was advanced at most once at or past a deadline that it had
-/// (`IsClosingInTime`).
+/// its writing is over. As long as it closes, it was advanced at most once at or past a deadline that it had while its peer
+/// took no byte (`IsClosingInTime`).
 ///
 /// A socket may leave before: at its peer's end, after 1 MiB, a second after its last byte was written, or as the oldest of
 /// more than 256 (`sockets_are_accounted`).

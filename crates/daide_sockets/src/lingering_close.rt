@@ -149,9 +149,8 @@ impl<'w, S: Duplex + Drop> LingeringClose<'w, S> {
         self.socket.stream.end_writing();
     }
 
-    /// Writes buffered bytes, as many as the stream accepts, or gives up writing if the peer is stalled at this reading
-    /// of the clock. It reads nothing, and drops no byte before that.
-    #[tactic(auto, using(daide_buffered_io::proofs::BufferLemmas::flush_then))]
+    /// Writes buffered bytes, as many as the stream accepts. Gives up writing if it accepts none, and the stall timeout of
+    /// the peer is over at this reading of the clock. It reads nothing, and drops no byte before that.
     fn write_on(&mut self, now: Option<Instant>)
         ensures passes { Passes S.to_give S.taken self.old.stream [] [] self.new.stream }
         ensures unread { ReadsNothing S.to_give self.old.stream self.new.stream }
@@ -159,8 +158,7 @@ impl<'w, S: Duplex + Drop> LingeringClose<'w, S> {
         ensures bound { self.new.closes_at ≡ self.old.closes_at }
         ensures tries { TriesWriting S.calls now self.old self.new }
     {
-        self.socket.give_up_stalled(now);
-        self.socket.flush_at(now);
+        self.socket.flush_in_time(now, true);
     }
 
     /// Writes the buffered bytes. Its writing is over once all are written, once a write failed, or once the peer is

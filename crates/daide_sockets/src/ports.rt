@@ -4,22 +4,23 @@
 //! connection of the operating system records nothing, so for it the contracts state only the results of its reads and
 //! writes.
 
-ghost use Rattle.std.specs.Prelude.{◌≡◌, ◌≢◌, ◌+◌, ◌<◌, ◌||◌, IsNone, None, [], min, length, take, not, true, false};
+ghost use Rattle.std.specs.Prelude.{◌≡◌, ◌≢◌, ◌+◌, ◌<◌, ◌||◌, IsNone, None, Some, [], min, length, take, is_none, true, false};
 ghost use Rattle.daide_frame.specs.declared.side.Side.TheVariants as Sides;
 ghost use Rattle.daide_frame.specs.PerSide.{at};
 ghost use Rattle.daide_frame.specs.Side.{other};
 ghost use Rattle.daide_io.specs.Ports.{TurnBegins, Clock as Popped, Pulled, Offered, IsPullWithin, IsPutWithin, pulled_len};
 ghost use Rattle.daide_buffered_io.specs.Buffers.{Passes, ReadsNothing, IsBufferedPull};
-ghost use Rattle.daide_buffered_io.specs.Calls.{OnlyPuts};
 ghost use Rattle.daide_buffered_io.specs.Streams.{Transfers};
 ghost use Rattle.daide_buffered_io.specs.Taking.{bytes_taken};
 ghost use Rattle.daide_sockets.specs.Sockets.{read_if};
 ghost use Rattle.daide_sockets.specs.Clock.{due_after, IsStallEnd, has_stalled, is_past};
+ghost use Rattle.daide_sockets.specs.Stops.{first_stop};
 ghost use Rattle.daide_sockets.specs.Table.{key_of, merged, report_at, without_reports};
 ghost use Rattle.daide_sockets.specs.Timers.{BeginsAt, PullsInTime, PutsInTime, FlushesInTime, BeginsInTime, SetsTimers, PortsEvolve, clock_event, is_got, streams_of, timers_of};
-ghost use Rattle.daide_sockets.specs.Wakeups.{StaysUnread, IsFlushedUnlessGathered, IsPulled, IsOffered, Settles, TakesReports, may_session_go_on, session_due};
+ghost use Rattle.daide_sockets.specs.Wakeups.{StaysUnread, IsFlushedUnlessGathered, IsPulled, IsOffered, Settles};
+ghost use Rattle.daide_sockets.specs.Wakeups.{BeginsWriting, TakesReports, may_session_go_on, session_due};
 
-use crate::clock::{earlier, is_past, timeout_end};
+use crate::clock::{earlier, has_stalled, is_past, timeout_end};
 use crate::present::Bot;
 use crate::socket::Socket;
 use crate::table::{SocketTable, merged};
@@ -29,6 +30,15 @@ use daide_frame::side::{Side, other};
 use daide_io::duplex::Duplex;
 use daide_io::ports::{ClockEvent, Ports, Pull, Put};
 use std::time::{Duration, Instant};
+
+/// Why a session is stopped.
+#[derive(Clone, Copy, Debug, PartialEq, Eq)]
+pub enum StopCause {
+    /// The operator requested it.
+    Operator,
+    /// As many messages of this side were refused as the settings allow.
+    Refusals(Side),
+}
 
 /// The idle timeout of the peers of a session, and the reading of the clock at which its turn began.
 #[derive(Clone, Copy)]
@@ -50,7 +60,7 @@ impl IdleTimeout {
     fn is_over(self, silent_from: Option<Instant>) -> bool
         ensures { result ≡ has_stalled self.time self.reading silent_from }
     {
-        self.time.is_some() && is_past(self.reading, silent_from)
+        has_stalled(self.time, self.reading, silent_from)
     }
 }
 
@@ -136,12 +146,13 @@ fn pull_in_time<S: Duplex + Drop>(
 /// stays so, but for a write that its stream did not take whole (`transition`, `OnlyPuts`). So while a run waits, bytes are
 /// held only after such a write, or before a poll first reported the socket as writable.
 ///
-/// The clock reports a stop if the caller stops the session, and in the turn that an operator's request begins; otherwise
+/// The clock reports a stop if the caller stops the session, and in the turn with which its system stops it; otherwise
 /// the expiry of the IM timer (`clock`: `answer`). A stop ends the session, so nothing is read after it.
 ///
-/// The timeouts start and expire by the reading of the turn (`transition`, `SetsTimers`). A peer whose stall timeout is over
-/// when a turn begins is given up: its writes fail. It starts when bytes wait for the peer, and starts again only if the peer
-/// takes a byte. The silence of a side starts again only with a pull that returns bytes. Once it is over, a pull that finds
+/// The timeouts start and expire by the reading of the turn (`transition`, `SetsTimers`). To a peer whose stall timeout is
+/// over when a turn begins, what is held is written, whatever is known of its socket (`begin_turn`: `takes`). If it takes no
+/// byte, or none is held, it is given up: its writes fail. The timeout starts when bytes wait for the peer, and starts again
+/// only if the peer takes a byte. The silence of a side starts again only with a pull that returns bytes. Once it is over, a pull that finds
 /// nothing is the side's end.
 ///
 /// Not said: the bytes of the operating system's own connections (`Connection`), of which nothing is known but what its
@@ -155,9 +166,9 @@ pub struct SocketPorts<'w, S: Drop> {
     im_due: Option<Instant>,
     /// Whether the deadline of the initial message passed at the beginning of the turn, for the first time.
     im_timer_expired: bool,
-    /// Whether an operator stopped the session.
-    is_stopped: bool,
-    /// Whether the operator stopped it at the beginning of this turn.
+    /// Why the session was stopped, if it was.
+    stop: Option<StopCause>,
+    /// Whether it was stopped at the beginning of this turn.
     stops: bool,
     sides: PerSide<Socket<'w, S>>,
 }
@@ -185,7 +196,7 @@ impl<'w, S: Drop> SocketPorts<'w, S> {
           silent_from = result.sides.server.silent_from;
         } }
         ensures im_due { result.im_due ≡ im_due }
-        ensures goes_on { result.is_stopped ≡ false }
+        ensures goes_on { result.stop ≡ None }
         ensures begins { BeginsAt now times (timers_of result) }
     {
         let (mut bot, mut server) = sockets;
@@ -200,7 +211,7 @@ impl<'w, S: Drop> SocketPorts<'w, S> {
             idle,
             im_due,
             im_timer_expired: false,
-            is_stopped: false,
+            stop: None,
             stops: false,
             sides: PerSide::new(bot, server),
         }
@@ -215,11 +226,23 @@ impl<'w, S: Drop> SocketPorts<'w, S> {
 
     /// Stops the session, if it was not stopped before: the clock reports that in this turn, and in no later one. No byte
     /// that was put is lost.
-    pub(crate) fn stop(&mut self)
-        ensures { self.new ≡ record self.old { is_stopped = true; stops = not self.old.is_stopped } }
+    pub(crate) fn stop(&mut self, cause: StopCause)
+        ensures { self.new ≡ record self.old {
+          stop = first_stop self.old.stop (Some cause);
+          stops = is_none self.old.stop;
+        } }
     {
-        self.stops = !self.is_stopped;
-        self.is_stopped = true;
+        self.stops = self.stop.is_none();
+        if self.stops {
+            self.stop = Some(cause);
+        }
+    }
+
+    /// Returns why the session was stopped; `None` if it was not.
+    pub fn stop_cause(&self) -> Option<StopCause>
+        ensures { result ≡ self.now.stop }
+    {
+        self.stop
     }
 
     /// Returns the sockets of the bot and of the server.
@@ -238,7 +261,7 @@ impl<'w, S: Drop> SocketPorts<'w, S> {
             idle: _,
             im_due: _,
             im_timer_expired: _,
-            is_stopped: _,
+            stop: _,
             stops: _,
             sides,
         } = self;
@@ -308,10 +331,10 @@ impl<S: Duplex + Drop> SocketPorts<'_, S> {
         ensures rest { self.new ≡ record self.old { sides = self.new.sides } }
         ensures bot_time { BeginsInTime self.old.idle.reading self.old.sides.bot self.new.sides.bot }
         ensures server_time { BeginsInTime self.old.idle.reading self.old.sides.server self.new.sides.server }
-        ensures bot_writes { OnlyPuts S.calls self.old.sides.bot.readiness self.old.sides.bot.stream.stream self.new.sides.bot.readiness
-            self.new.sides.bot.stream.stream }
-        ensures server_writes { OnlyPuts S.calls self.old.sides.server.readiness self.old.sides.server.stream.stream self.new.sides.server.readiness
-            self.new.sides.server.stream.stream }
+        ensures bot_writes { BeginsWriting S.calls self.old.idle.reading self.old.sides.bot.readiness self.old.sides.bot
+            self.new.sides.bot }
+        ensures server_writes { BeginsWriting S.calls self.old.idle.reading self.old.sides.server.readiness self.old.sides.server
+            self.new.sides.server }
         ensures keys { (self.new.sides.bot.key ≡ self.old.sides.bot.key) × (self.new.sides.server.key ≡ self.old.sides.server.key) }
     {
         let now = self.idle.reading;
@@ -338,7 +361,8 @@ impl<S: Duplex + Drop> SocketPorts<'_, S> {
     ///
     /// `expires`: the IM timer expires exactly in the first turn that begins at its deadline or after it (`once`).
     ///
-    /// `timers`: a peer is given up if its stall timeout is over at that reading. No silence begins with a turn.
+    /// `timers`: a peer is given up if its stall timeout is over at that reading, and it takes no byte of what is held for it,
+    /// which is written in any case (`takes`). No silence begins with a turn.
     pub fn begin_turn(&mut self, place: usize, table: &mut SocketTable)
         ensures begins { Transfers S.to_give S.taken (streams_of self.old) TurnBegins (streams_of self.new) }
         ensures silent { (self.new.sides.bot.timed.is_silent ≡ self.old.sides.bot.timed.is_silent)
@@ -350,7 +374,7 @@ impl<S: Duplex + Drop> SocketPorts<'_, S> {
         ensures idle { self.new.idle ≡ record self.old.idle { reading = table.old.reading } }
         ensures expires { self.new.im_timer_expired ≡ is_past table.old.reading self.old.im_due }
         ensures once { self.new.im_due ≡ due_after table.old.reading self.old.im_due }
-        ensures goes_on { self.new.is_stopped ≡ self.old.is_stopped }
+        ensures goes_on { self.new.stop ≡ self.old.stop }
         ensures no_stop { self.new.stops ≡ false }
         ensures timers { SetsTimers TurnBegins (timers_of self.old) (timers_of self.new) }
         ensures settles { Settles S.calls TurnBegins self.old.sides self.new.sides }

@@ -2,7 +2,7 @@
 
 ghost use Rattle.std.specs.Prelude.{◌≡◌, ◌++◌, ◌∷◌, [], true, false, IfSome, length};
 ghost use Rattle.daide_settings.specs.Ranges.{count_at, may_come as is_let_in, same_host};
-ghost use Rattle.daide_sockets.specs.Present.{HasRoomForOne, hosts_of, position_of, without_at, without_bot};
+ghost use Rattle.daide_sockets.specs.Present.{HasRoomForOne, hosts_of, is_there, position_of, without_at, without_bot};
 
 use daide_settings::{AddressRange, Host, may_come};
 use std::alloc::Global;
@@ -92,6 +92,13 @@ impl Present {
         ensures { result ≡ length self.now.bots.items }
     {
         self.bots.len()
+    }
+
+    /// Returns whether the bot with this number is there.
+    pub(crate) fn has(&self, number: u32) -> bool
+        ensures { result ≡ is_there number self.now.bots.items }
+    {
+        position_of(number, self.bots.as_slice()) < self.bots.len()
     }
 
     /// Adds a bot. Returns false if there is no room for it, and changes nothing then.

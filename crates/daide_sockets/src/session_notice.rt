@@ -1,9 +1,10 @@
 //! The log lines about the sessions of a run, which `--verbose` requests.
 
 ghost use Rattle.std.specs.Prelude.{◌≡◌, Some};
-ghost use Rattle.daide_sockets.specs.Lines.{end_cause_of, why_by, why_ended, milliseconds_between};
+ghost use Rattle.daide_sockets.specs.Lines.{end_cause_of, why_by, why_ended, why_stopped, milliseconds_between};
 ghost use Rattle.daide_sockets.specs.Lines.{ending_text, lasted_text, line_of, notice_text, side_name, why_text};
 
+use crate::ports::StopCause;
 use crate::timed::Timed;
 use daide_frame::code::Code;
 use daide_frame::per_side::PerSide;
@@ -130,6 +131,8 @@ pub enum Why {
     Silent(Side),
     /// This side accepted no byte for this many seconds, while some were queued for it.
     Stalled(Side, u32),
+    /// As many messages of this side were refused as the settings allow.
+    Refused(Side),
     /// Its server was unreachable.
     NoServer,
 }
@@ -152,15 +155,26 @@ fn why_ended(side: Side, timed: Timed, stall_seconds: u32) -> Why
     Why::Ended(Cause::Session(Ending::Ended(side)), None)
 }
 
+/// Returns the reason for a session that was stopped, for this cause if its run did it.
+fn why_stopped(stop: Option<StopCause>) -> Why
+    ensures { result ≡ why_stopped stop }
+{
+    match stop {
+        Some(StopCause::Refusals(side)) => Why::Refused(side),
+        Some(StopCause::Operator) | None => Why::STOPPED,
+    }
+}
+
 /// Returns why a session is over, from its cause, the field that its fault is about, the expired timeouts of its two
-/// sockets, and the stall timeout in seconds.
+/// sockets, why it was stopped, if it was, and the stall timeout in seconds.
 pub fn why_of(
     cause: Cause,
     field: Option<FaultField>,
     timed: &PerSide<Timed>,
+    stop: Option<StopCause>,
     stall_seconds: u32,
 ) -> Why
-    ensures { result ≡ why_by cause field timed.now stall_seconds }
+    ensures { result ≡ why_by cause field timed.now stop stall_seconds }
 {
     match cause {
         Cause::Session(Ending::Ended(side)) => { why_ended(side, *timed.at(side), stall_seconds) }
@@ -168,6 +182,7 @@ pub fn why_of(
             Why::Stalled(side, stall_seconds)
         }
         Cause::Session(Ending::Fault(_, _)) => Why::Ended(cause, field),
+        Cause::Session(Ending::Stopped) => why_stopped(stop),
         _ => Why::Ended(cause, None),
     }
 }
@@ -189,6 +204,7 @@ pub(crate) fn end_cause(why: Why) -> EndCause
         },
         Why::Silent(side) => EndCause::Silent(side),
         Why::Stalled(side, _) => EndCause::Stalled(side),
+        Why::Refused(side) => EndCause::Refused(side),
         Why::NoServer => EndCause::NoServer,
     }
 }
@@ -244,6 +260,7 @@ impl fmt::Display for Why {
             Why::Stalled(side, seconds) => {
                 write!(f, "{} took nothing for {seconds} s", name_of(side))
             }
+            Why::Refused(side) => write!(f, "too many refusals of {}", name_of(side)),
             Why::NoServer => f.write_str("no server"),
         }
     }

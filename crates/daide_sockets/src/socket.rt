@@ -4,7 +4,7 @@
 //! session, and at most `MOST_HELD` bytes each way of each socket. It works over any stream, and its contracts state the
 //! bytes that this returned and accepted.
 
-ghost use Rattle.std.specs.Prelude.{◌≡◌, ◌⊎◌, ℕ, ◌+◌, ◌<◌, ◌||◌, nat_lt, Bool, IsNone, IfSome, IfNone, None, [], min, length, take, true, false};
+ghost use Rattle.std.specs.Prelude.{◌≡◌, ◌⊎◌, ℕ, ◌+◌, ◌<◌, ◌≤◌, ◌||◌, nat_lt, Bool, IsNone, IfSome, IfNone, None, [], min, length, take, true, false};
 ghost use Rattle.daide_sockets.specs.Clock.{earlier, next_deadline, StallsNext, has_stalled, is_past};
 ghost use Rattle.daide_io.specs.Network.{Follows};
 ghost use Rattle.daide_io.specs.Ports.{IsPullWithin, IsPutWithin, pulled_len};
@@ -12,14 +12,14 @@ ghost use Rattle.daide_io.specs.Streams.{IsSameStream};
 ghost use Rattle.daide_buffered_io.specs.Buffers.{Passes, ReadsNothing, IsBufferedPull, IsFlushed, with_stream};
 ghost use Rattle.daide_buffered_io.specs.Calls.{OnlyPuts};
 ghost use Rattle.daide_buffered_io.specs.Taking.{bytes_taken, taken_len};
-ghost use Rattle.daide_sockets.specs.Lingering.{IsWriting, IsWritingOver};
+ghost use Rattle.daide_sockets.specs.Lingering.{IsWriting, IsWritingOver, TriesLast};
 ghost use Rattle.daide_sockets.specs.Pairing.{IsFresh};
-ghost use Rattle.daide_sockets.specs.Sockets.{after_move, has_socket_work};
+ghost use Rattle.daide_sockets.specs.Sockets.{after_move, has_socket_work, write_if};
 ghost use Rattle.daide_sockets.specs.Table.{freed, merged, no_report, report_at, without_report};
 ghost use Rattle.daide_sockets.specs.Timers.{IsStallKept, FlushesInTime, BeginsInTime, PutsInTime};
-ghost use Rattle.daide_sockets.specs.Wakeups.{StaysUnread, IsFlushedUnlessGathered, IsNothing, IsPulled, IsOffered};
+ghost use Rattle.daide_sockets.specs.Wakeups.{StaysUnread, IsFlushedUnlessGathered, IsNothing, IsPulled, IsOffered, BeginsWriting};
 
-use crate::clock::{earlier, is_past, stalls_next};
+use crate::clock::{earlier, has_stalled, is_past, stalls_next};
 use crate::poller::Poller;
 use crate::table::{SocketTable, merged};
 use crate::timed::Timed;
@@ -105,8 +105,11 @@ impl<'w, S: Duplex + Drop> Socket<'w, S> {
     {
         self.key = key;
         if !poller.network.refollow(self.stream.stream_mut(), key) {
-            self.readiness.may_read = true;
-            self.readiness.may_write = true;
+            self.readiness = Readiness {
+                may_read: true,
+                may_write: true,
+                ..self.readiness
+            };
         }
     }
 }
@@ -236,49 +239,6 @@ impl<S: Duplex + Drop> Socket<'_, S> {
         let took = took_some(queued, count, self.stream.queued_len());
         let is_waiting = count < len || self.stream.has_queued();
         self.note_written(now, took, is_waiting);
-    }
-
-    /// Gives up writing to a peer whose stall timeout is over at this reading of the clock, and leaves the socket as it
-    /// is otherwise. It moves no byte.
-    ///
-    /// `patient`: if no time is set, it does nothing.
-    ///
-    /// `stalled`: from then on each put fails.
-    ///
-    /// `gives_up`: it gives up if and only if the moment is past: `stall_seconds` after the last byte that the peer
-    /// took, or after the first byte was queued.
-    ///
-    /// Not said: that the reading is the present time. `tests/program` shows for a bot and a server that it comes in
-    /// time, and that no such peer holds a run open.
-    #[tactic(auto, using(daide_buffered_io::proofs::BufferLemmas::same_passes))]
-    pub(crate) fn give_up_stalled(&mut self, now: Option<Instant>)
-        ensures passes { Passes S.to_give S.taken self.old.stream [] [] self.new.stream }
-        ensures unread { ReadsNothing S.to_give self.old.stream self.new.stream }
-        ensures stalled { self.new.timed.is_stalled ≡ true → self.old.timed.is_stalled ≡ false →
-            self.new.stream.has_failed ≡ true }
-        ensures gives_up { has_stalled self.old.stall_time now self.old.stalls_at ≡ true →
-            self.new.stream ≡ record self.old.stream { has_failed = true } }
-        ensures waits { has_stalled self.old.stall_time now self.old.stalls_at ≡ false →
-            (self.new.stream ≡ self.old.stream) × (self.new.stalls_at ≡ self.old.stalls_at)
-            × (self.new.timed ≡ self.old.timed) }
-        ensures ends_once { has_stalled self.old.stall_time now self.old.stalls_at ≡ true → self.new.stalls_at ≡ None }
-        ensures stall_time { self.new.stall_time ≡ self.old.stall_time }
-        ensures known { (self.new.key ≡ self.old.key) × (self.new.readiness ≡ self.old.readiness) }
-        ensures silent_from { self.new.silent_from ≡ self.old.silent_from }
-        ensures patient { IsNone self.old.stall_time → self.new.timed ≡ self.old.timed }
-        ensures silent { self.new.timed.is_silent ≡ self.old.timed.is_silent }
-        ensures ends { self.new.timed.ends_stalled ≡ self.old.timed.ends_stalled }
-        ensures gathering { self.new.is_gathering ≡ self.old.is_gathering }
-    {
-        if self.stall_time.is_none() {
-            return;
-        }
-        if !is_past(now, self.stalls_at) {
-            return;
-        }
-        self.stalls_at = None;
-        self.stream.give_up();
-        self.timed.is_stalled = true;
     }
 
     /// Returns buffered bytes, or reads from the connection. The bytes of `Got` are, in order, those that the
@@ -441,25 +401,73 @@ impl TurnsHeld {
 }
 
 impl<S: Duplex + Drop> Socket<'_, S> {
-    /// Writes buffered bytes whose turns are over.
-    #[tactic(auto, using(daide_buffered_io::proofs::BufferLemmas::same_passes))]
-    fn flush_late(&mut self, now: Option<Instant>)
+    /// Writes the buffered bytes of a peer whose stall timeout is over, whatever is known of its readiness: the system
+    /// reports a socket as writable only once a third of its buffer is free. Gives the peer up if it takes none of
+    /// them, or none is buffered: from then on each put fails, and the peer counts as stalled (`stalled`).
+    fn write_last(&mut self, now: Option<Instant>)
         ensures passes { Passes S.to_give S.taken self.old.stream [] [] self.new.stream }
         ensures unread { ReadsNothing S.to_give self.old.stream self.new.stream }
-        ensures timed { self.new.timed ≡ self.old.timed }
+        ensures tries { TriesLast S.calls self.old.readiness self.old.stream self.new.readiness self.new.stream }
+        ensures writes { OnlyPuts S.calls (write_if true self.old.readiness) self.old.stream.stream self.new.readiness
+            self.new.stream.stream }
+        ensures in_time { BeginsInTime now self.old self.new }
+        ensures stalled { length self.old.stream.write_buffer ≤ length self.new.stream.write_buffer →
+            self.new.timed ≡ record self.old.timed { is_stalled = true } }
+        ensures timed { length self.new.stream.write_buffer < length self.old.stream.write_buffer →
+            self.new.timed ≡ self.old.timed }
         ensures gathering { self.new.is_gathering ≡ self.old.is_gathering }
-        ensures in_time { FlushesInTime now self.old self.new }
-        ensures writes { OnlyPuts S.calls self.old.readiness self.old.stream.stream self.new.readiness self.new.stream.stream }
         ensures key { self.new.key ≡ self.old.key }
     {
-        if self.held.is_over() {
+        let before = self.stream.queued_len();
+        self.readiness.may_write = true;
+        self.flush_at(now);
+        if self.stream.queued_len() < before {
+            return;
+        }
+        self.stalls_at = None;
+        self.stream.give_up();
+        self.timed.is_stalled = true;
+    }
+
+    /// Writes buffered bytes once if that `is_due`, and in any case once the stall timeout of the peer is over at this
+    /// reading of the clock: `stall_seconds` after the last byte that it took, or after the first byte was queued.
+    ///
+    /// `writes`: if the timeout is over, it gives the peer up if and only if that write takes no byte, or none is
+    /// buffered (`TriesLast`).
+    ///
+    /// `in_time`: if the peer takes a byte, its timeout starts again, or is over once nothing is buffered.
+    ///
+    /// `written`, `nothing`: before that, only a write that fails gives up.
+    ///
+    /// Not said: that the reading is the present time. `tests/program` shows for a bot and a server that it comes in
+    /// time, and that no such peer holds a run open.
+    #[tactic(auto, using(daide_buffered_io::proofs::BufferLemmas::same_passes))]
+    pub(crate) fn flush_in_time(&mut self, now: Option<Instant>, is_due: bool)
+        ensures passes { Passes S.to_give S.taken self.old.stream [] [] self.new.stream }
+        ensures unread { ReadsNothing S.to_give self.old.stream self.new.stream }
+        ensures in_time { BeginsInTime now self.old self.new }
+        ensures writes { BeginsWriting S.calls now self.old.readiness self.old self.new }
+        ensures written { has_stalled self.old.stall_time now self.old.stalls_at ≡ false → is_due ≡ true →
+            IsWriting self.old.stream →
+            IsFlushed S.calls self.old.readiness self.old.stream self.new.readiness self.new.stream }
+        ensures nothing { has_stalled self.old.stall_time now self.old.stalls_at ≡ false → IsWritingOver self.old.stream →
+            (self.new.stream ≡ self.old.stream) × (self.new.readiness ≡ self.old.readiness) }
+        ensures waits { is_due ≡ true → IsWriting self.new.stream → StallsNext self.old.stall_time now self.old.stalls_at
+            (nat_lt (length self.new.stream.write_buffer) (length self.old.stream.write_buffer)) self.new.stalls_at }
+        ensures silent { self.new.timed.is_silent ≡ self.old.timed.is_silent }
+        ensures ends { self.new.timed.ends_stalled ≡ self.old.timed.ends_stalled }
+        ensures gathering { self.new.is_gathering ≡ self.old.is_gathering }
+        ensures key { self.new.key ≡ self.old.key }
+    {
+        if has_stalled(self.stall_time, now, self.stalls_at) {
+            self.write_last(now);
+        } else if is_due {
             self.flush_at(now);
         }
     }
 
-    /// Begins a turn, in which nothing is put yet: gives up a stalled peer, and writes buffered bytes whose turns are
-    /// over.
-    #[tactic(auto, using(daide_buffered_io::proofs::BufferLemmas::flush_then, daide_buffered_io::proofs::BufferLemmas::unread_then))]
+    /// Begins a turn, in which nothing is put yet: writes buffered bytes whose turns are over, and gives up a stalled
+    /// peer.
     #[inline(always)]
     pub(crate) fn begin_turn(&mut self, now: Option<Instant>)
         ensures passes { Passes S.to_give S.taken self.old.stream [] [] self.new.stream }
@@ -468,13 +476,13 @@ impl<S: Duplex + Drop> Socket<'_, S> {
         ensures ends { self.new.timed.ends_stalled ≡ self.old.timed.ends_stalled }
         ensures gathering { self.new.is_gathering ≡ false }
         ensures in_time { BeginsInTime now self.old self.new }
-        ensures writes { OnlyPuts S.calls self.old.readiness self.old.stream.stream self.new.readiness self.new.stream.stream }
+        ensures writes { BeginsWriting S.calls now self.old.readiness self.old self.new }
         ensures key { self.new.key ≡ self.old.key }
     {
         self.is_gathering = false;
         self.tries_again = false;
         self.held = self.held.with_turn(&self.stream);
-        self.give_up_stalled(now);
-        self.flush_late(now);
+        let is_due = self.held.is_over();
+        self.flush_in_time(now, is_due);
     }
 }

@@ -2,7 +2,7 @@
 
 ghost use Rattle.std.specs.Net.Socket.{socket_ip};
 ghost use Rattle.std.specs.Option.{is_some};
-ghost use Rattle.std.specs.Prelude.{◌≡◌, ◌≢◌, ◌⊎◌, ℕ, List, Option, ◌<◌, ◌||◌, ◌&&◌, IfSome, None, true, false, [], length, not, if◌then◌else◌, slice_get};
+ghost use Rattle.std.specs.Prelude.{◌≡◌, ◌≢◌, ◌⊎◌, ℕ, List, Option, ◌<◌, ◌&&◌, IfSome, None, true, false, [], length, is_none, if◌then◌else◌, slice_get};
 ghost use Rattle.std.specs.declared.time.Duration.{Duration};
 ghost use Rattle.daide_frame.specs.declared.side.Side.TheVariants as Sides;
 ghost use Rattle.daide_io.specs.Ports.{TurnBegins};
@@ -16,17 +16,19 @@ ghost use Rattle.daide_settings.specs.Ranges.{host_of, may_come};
 ghost use Rattle.daide_sockets.specs.Accepting.{descriptors_for, is_bot_due, round_begun, BringsNoBot, HasConnected, IsUnreached};
 ghost use Rattle.daide_sockets.specs.PollTimes.{listener_armed, others_armed};
 ghost use Rattle.daide_sockets.specs.Capacity.{capacity_after};
-ghost use Rattle.daide_sockets.specs.ControlSlots.{Each, PlaceShows, places, arming_control};
+ghost use Rattle.daide_sockets.specs.ControlSlots.{Each, PlaceShows, arming_control};
 ghost use Rattle.daide_sockets.specs.Finishing.{FinishesAll};
 ghost use Rattle.daide_sockets.specs.Table.{arming_all};
 ghost use Rattle.daide_sockets.specs.Lines.{Logs, LogsNoBot, end_cause_of, end_notice, no_bot_counted, timed_of, why_retired, why_unreached};
 ghost use Rattle.daide_sockets.specs.Lingering.{LooksAround, in_pass, GoOnFor, no_closing};
-ghost use Rattle.daide_sockets.specs.Pairing.{Arriving, ClosesBothAt, TakesOut, is_vacant, pending_connects};
+ghost use Rattle.daide_sockets.specs.Pairing.{Arriving, arrival_at, ClosesBothAt, TakesOut, is_vacant, pending_connects};
 ghost use Rattle.daide_sockets.specs.Present.{AdmitsBot, HasRoomForOne, hosts_of, without_bot};
 ghost use Rattle.daide_sockets.specs.Rows.{AreRowsOf, KeepsClosingRows, closing_keys};
 ghost use Rattle.daide_sockets.specs.Scheduling.{BeginsListening, RunEvolves, pair_of, run_state};
 ghost use Rattle.daide_sockets.specs.ServerStates.{away_at, one_more_unreached, reached_at, untried_at};
 ghost use Rattle.daide_sockets.specs.Snapshot.{IsSessionRow};
+ghost use Rattle.daide_sockets.specs.Stops.{first_stop, is_connect_stopped, is_refused_often, is_stop_requested};
+ghost use Rattle.daide_sockets.specs.Stops.{refused_side, stop_begins, stop_due};
 ghost use Rattle.daide_sockets.specs.Clock.{due_after, IsSeconds, IsIdleTime, is_past};
 ghost use Rattle.daide_sockets.specs.Table.{Table, IsPollTime, disarmed, key_of};
 ghost use Rattle.daide_sockets.specs.Timers.{PortsEvolve};
@@ -44,7 +46,7 @@ use crate::clock::idle_time_of;
 use crate::control::{Control, seconds_between};
 use crate::lingering_close::Closings;
 use crate::poller::Poller;
-use crate::ports::SocketPorts;
+use crate::ports::{SocketPorts, StopCause};
 use crate::present::{Bot, Present};
 use crate::server_state::KnownServer;
 use crate::session_notice::{Lasted, NoticeLine, SessionNotice, Why, end_cause, why_of};
@@ -57,6 +59,7 @@ use daide_frame::side::Side;
 use daide_io::network::Network;
 use daide_io::ready_queue::ReadyQueue;
 use daide_io::system::{Connect, Notice, Orders, SessionEnd, SessionStatus, System};
+use daide_protocol::{Account, SideCounts};
 use daide_settings::{AddressRange, Settings};
 use daide_status::{RunCounts, SessionRow};
 use std::alloc::{Allocator, Global};
@@ -69,7 +72,7 @@ use std::time::Duration;
 /// with the next number, at its place, which was free, and with the connect that was begun for it. Ports that are ready have
 /// the two connections of the bot at their place: its own, and the one made for it. A bot whose server can't be reached begins
 /// to close. So do both connections of a session that is retired, with what is held for them. A pending connect keeps its bot,
-/// and may be begun again. It is given up only after a stop of all sessions, after its deadline, or once each address of the
+/// and may be begun again. It is given up only after a stop of its session, after its deadline, or once each address of the
 /// server was tried (`connected`: `unreached`). Except `poll`, no other call changes them.
 ///
 /// In `poll` the sockets that close make progress, by the table's reading of the clock (`tidy`: `closing`): all of them, or
@@ -84,9 +87,10 @@ use std::time::Duration;
 /// no bot, it failed, or its bot may not come, or the system refused to follow its connection (`kept`). Each bot that was
 /// accepted and closed at once is counted, and its line is logged if sessions are, with its address and why. From then on the
 /// next poll is for bots too (`awaited`), so it does not block while an accept is due. A bot is accepted only if it may come by
-/// the settings, beside the hosts of those that are there. What is judged is the address that the network returned with its connection (`accept`: `admitted`). A bot that comes
-/// is added to those, with this address, which the ports of its session have for the records and the status (`IsJoined`). The end
-/// of its session removes it (`retire`: `present`), or that of its connect (`connected`: `leaves`), and no other call changes them.
+/// the settings, beside the hosts of those that are there. What is judged is the address that the network returned with its
+/// connection (`accept`: `admitted`). A bot that comes is added to those, with this address, which the ports of its session have
+/// for the records and the status (`IsJoined`). The end of its session removes it (`retire`: `present`), or that of its connect
+/// (`connected`: `leaves`), and no other call changes them.
 ///
 /// The rows of a place are fixed by its number, and those of the listeners and of control connections by theirs. Only a closing
 /// socket takes a row, and the taken rows are always exactly those of the closing sockets (`HoldsRows`). A run begins with none
@@ -101,14 +105,15 @@ use std::time::Duration;
 /// each session that is shown (`Controls`). No other call changes the control socket. Once a
 /// stop is requested, or all bots of the run came, the listener for bots is closed (`acceptor`, `closes`). Otherwise a poll at most
 /// ends the pause after a failed accept, once its time is over (`Schedules`). Once it is requested
-/// that sessions end now, each place is woken (`wake_stopped`), and a pending connect is given up (`connected`). The next turn of a
-/// session stops it, and no later one (`begin_turn`: `stops`, `once`).
+/// that sessions end now, or one of them, each place is woken (`poll`: `stops`), and a pending connect of such a session is given
+/// up (`connected`). The next turn of the session stops it, and no later one (`begin_turn`: `stops`, `once`). So does the next turn
+/// after as many messages of a side were refused as the settings allow.
 ///
 /// In each poll a run notes whether it is full and whether accepts pause, and logs what changed (`poll`: `capacity`).
 ///
 /// Not said: that a poll ended because something came, and that the port in a row of a status is the connection's: the
 /// system returns it (`Network::local_address`). That held bytes are given up only after a failed write, or after
-/// `stall_seconds`, is read from `flush_at` and `give_up_stalled`. Nor the lines of the server that is away or reached again, and
+/// `stall_seconds`, is read from `flush_at` and `flush_in_time`. Nor the lines of the server that is away or reached again, and
 /// those of the capacity: scenes compare them. Which lines `--verbose` writes of bots and of the ends of sessions is in the
 /// clauses `logged`, and what a run counts in `counted`.
 #[derive(Drop)]
@@ -133,6 +138,8 @@ pub struct Sockets<'w, N: Network, E: Sink + Drop> {
     allow: &'w [AddressRange],
     /// The greatest number of sessions at once with bots from one address; 0 for no limit.
     max_per_address: u16,
+    /// The number of refused messages of one side at which its session is stopped; 0 for never.
+    max_refused: u32,
     /// The most sessions at once.
     max_sessions: usize,
     /// The number of bots of the run in all.
@@ -153,6 +160,13 @@ pub struct Sockets<'w, N: Network, E: Sink + Drop> {
     is_verbose: bool,
     /// The capacity of the run, as it was logged last.
     capacity: Capacity,
+}
+
+/// Returns whether as many messages of a side were refused, with PRN or with HUH, as may be; 0 is no limit.
+fn is_refused_often(most: u32, counts: SideCounts) -> bool
+    ensures { result ≡ is_refused_often most counts }
+{
+    most > 0 && counts.prn.saturating_add(counts.huh) >= u64::from(most)
 }
 
 impl<'w, N: Network, E: Sink + Drop> Sockets<'w, N, E> {
@@ -178,7 +192,8 @@ impl<'w, N: Network, E: Sink + Drop> Sockets<'w, N, E> {
         ensures connect_time { IfSome result (λ sockets. sockets.connect_time ≡ connect_time) }
         ensures servers { IfSome result (λ sockets. sockets.servers.now ≡ resources.entry.1.now) }
         ensures rules { IfSome result (λ sockets. (sockets.allow.now ≡ settings.now.allow.items)
-            × (sockets.max_per_address ≡ settings.now.max_per_address)) }
+            × (sockets.max_per_address ≡ settings.now.max_per_address)
+            × (sockets.max_refused ≡ settings.now.max_refused)) }
         ensures no_orders { IfSome result (λ sockets. (sockets.control.stops_accepting ≡ false)
             × (sockets.control.stops_now ≡ false)) }
         ensures bots { IfSome result (λ sockets. (sockets.bots_in_all ≡ bots_in_all settings.now)
@@ -218,6 +233,7 @@ impl<'w, N: Network, E: Sink + Drop> Sockets<'w, N, E> {
             closings,
             allow: settings.allow.as_slice(),
             max_per_address: settings.max_per_address,
+            max_refused: settings.max_refused,
             max_sessions: settings.max_sessions,
             bots_in_all: settings.bots_in_all(),
             present,
@@ -351,6 +367,36 @@ impl<'w, N: Network, E: Sink + Drop> Sockets<'w, N, E> {
         self.closings.finish(&mut self.poller);
     }
 
+    /// Returns the side of which as many messages were refused as the settings allow, the bot first.
+    fn refused_side(&self, account: &Account) -> Option<Side>
+        ensures { result ≡ refused_side self.now.max_refused account.now }
+    {
+        if is_refused_often(self.max_refused, account.bot) {
+            return Some(Side::Bot);
+        }
+        if is_refused_often(self.max_refused, account.server) {
+            return Some(Side::Server);
+        }
+        None
+    }
+
+    /// Returns whether the operator requested the stop of all sessions, or of the one with this number.
+    fn is_stop_requested(&self, number: u32) -> bool
+        ensures { result ≡ is_stop_requested self.now.control number }
+    {
+        self.control.stops_now() || self.control.ends_session(number)
+    }
+
+    /// Returns why the session with this number and this account is to be stopped; `None` if it goes on.
+    fn stop_of(&self, number: u32, account: &Account) -> Option<StopCause>
+        ensures { result ≡ stop_due (is_stop_requested self.now.control number) self.now.max_refused account.now }
+    {
+        if self.is_stop_requested(number) {
+            return Some(StopCause::Operator);
+        }
+        self.refused_side(account).map(StopCause::Refusals)
+    }
+
     /// Has the next poll watch the listener and each closing socket, beside the control socket.
     fn arm_others(&mut self)
         ensures armed { self.new.poller.table ≡ arming_all self.old.poller.table (others_armed self.old.poller.table
@@ -381,13 +427,14 @@ impl<'w, N: Network, E: Sink + Drop> Sockets<'w, N, E> {
         self.poller.table.disarm();
     }
 
-    /// Wakes each place once an operator stops all sessions, which was not so before.
+    /// Wakes each place once an operator stops all sessions, which was not so before, or one of them.
     fn wake_stopped<A: Allocator>(&self, was_stopped: bool, ready: &mut ReadyQueue<A>)
         ensures { (woken : List ℕ) × (ready.new ≡ woken_all woken ready.old)
-            × (self.now.control.stops_now ≡ true → was_stopped ≡ false → (place : ℕ) →
+            × (stop_begins self.now.control was_stopped ≡ true → (place : ℕ) →
             place < length self.now.poller.table.deadlines → is_among place woken ≡ true) }
     {
-        if was_stopped || !self.control.stops_now() {
+        let stops_all = self.control.stops_now() && !was_stopped;
+        if !(stops_all || self.control.ends_some()) {
             return;
         }
         for place in 0..self.poller.table.places() {
@@ -413,7 +460,7 @@ impl<'w, N: Network, E: Sink + Drop> System<SocketPorts<'w, N::Connection>> for 
             (Polls may_block woken result)
             (run_state (self.new.poller.network, self.new.poller.table) (self.new.idle_time, self.new.stall_time) self.new.acceptor
             self.new.arrivals.items self.new.closings self.new.control) }
-        ensures stops { self.new.control.stops_now ≡ true → self.old.control.stops_now ≡ false → (woken : List ℕ)
+        ensures stops { stop_begins self.new.control self.old.control.stops_now ≡ true → (woken : List ℕ)
             × (ready.new ≡ woken_all woken ready.old) × ((place : ℕ) →
             place < length self.new.poller.table.deadlines → is_among place woken ≡ true) }
         ensures orders { result.stops_accepting ≡ self.new.control.stops_accepting }
@@ -451,7 +498,7 @@ impl<'w, N: Network, E: Sink + Drop> System<SocketPorts<'w, N::Connection>> for 
             self.new.arrivals.items self.new.closings self.new.control) }
         ensures shows { (row : SessionRow) × IsSessionRow self.old.poller.table.reading ports.now.identity
             ports.now.sides status row
-            × Each (PlaceShows row) (places self.old.control.slots) (places self.new.control.slots) }
+            × Each (PlaceShows row) self.old.control.slots self.new.control.slots }
         ensures same { self.new ≡ record self.old { control = self.new.control } }
     {
         let row = self.row_of(ports, status);
@@ -459,12 +506,17 @@ impl<'w, N: Network, E: Sink + Drop> System<SocketPorts<'w, N::Connection>> for 
         self.poller.table.is_bounded();
     }
 
-    fn begin_turn(&mut self, place: usize, ports: &mut SocketPorts<'w, N::Connection>)
+    fn begin_turn(
+        &mut self,
+        place: usize,
+        account: &Account,
+        ports: &mut SocketPorts<'w, N::Connection>,
+    )
         ensures ports { PortsEvolve N.Connection.to_give N.Connection.taken N.Connection.calls ports.old TurnBegins ports.new }
         ensures system { RunEvolves N.transition N.Connection.to_give N.Connection.taken N.Connection.calls
             (λ (ports : PortsOf N.Connection). ports)
             (run_state (self.old.poller.network, self.old.poller.table) (self.old.idle_time, self.old.stall_time) self.old.acceptor
-            self.old.arrivals.items self.old.closings self.old.control) (BeginsTurn place ports.old ports.new)
+            self.old.arrivals.items self.old.closings self.old.control) (BeginsTurn place account.now ports.old ports.new)
             (run_state (self.new.poller.network, self.new.poller.table) (self.new.idle_time, self.new.stall_time) self.new.acceptor
             self.new.arrivals.items self.new.closings self.new.control) }
         ensures silent { (ports.new.sides.bot.timed.is_silent ≡ ports.old.sides.bot.timed.is_silent)
@@ -475,13 +527,17 @@ impl<'w, N: Network, E: Sink + Drop> System<SocketPorts<'w, N::Connection>> for 
         ensures clock { self.new.poller.table.reading ≡ self.old.poller.table.reading }
         ensures expires { ports.new.im_timer_expired ≡ is_past self.old.poller.table.reading ports.old.im_due }
         ensures im_once { ports.new.im_due ≡ due_after self.old.poller.table.reading ports.old.im_due }
-        ensures stops { ports.new.is_stopped ≡ (ports.old.is_stopped || self.old.control.stops_now) }
-        ensures once { ports.new.stops ≡ (self.old.control.stops_now && not ports.old.is_stopped) }
+        ensures stops { ports.new.stop ≡ first_stop ports.old.stop
+            (stop_due (is_stop_requested self.old.control ports.old.identity.number) self.old.max_refused account.now) }
+        ensures once { ports.new.stops ≡ (is_none ports.old.stop
+            && is_some (stop_due (is_stop_requested self.old.control ports.old.identity.number) self.old.max_refused
+            account.now)) }
     {
+        let number = ports.identity().number;
         ports.begin_turn(place, &mut self.poller.table);
         self.poller.table.is_bounded();
-        if self.control.stops_now() {
-            ports.stop();
+        if let Some(cause) = self.stop_of(number, account) {
+            ports.stop(cause);
         }
     }
 
@@ -559,7 +615,7 @@ impl<'w, N: Network, E: Sink + Drop> System<SocketPorts<'w, N::Connection>> for 
     }
 
     /// Returns the result of the connect for the bot at a place, if it has one. Otherwise the place rests, until something is
-    /// reported of the connect, or until its deadline. After a request that sessions end now, the connect is given up.
+    /// reported of the connect, or until its deadline. After a request that its session ends now, the connect is given up.
     ///
     /// `present`, `leaves`: those present are the same, except for a bot whose connect is given up. The line of the end of its
     /// session is logged if sessions are.
@@ -580,7 +636,8 @@ impl<'w, N: Network, E: Sink + Drop> System<SocketPorts<'w, N::Connection>> for 
             self.old.arrivals.items self.old.closings self.old.control) (Connects place result)
             (run_state (self.new.poller.network, self.new.poller.table) (self.new.idle_time, self.new.stall_time) self.new.acceptor
             self.new.arrivals.items self.new.closings self.new.control) }
-        ensures unreached { result ≡ Connect.Failed → self.old.control.stops_now ≡ false →
+        ensures unreached { result ≡ Connect.Failed →
+            is_connect_stopped self.old.control (arrival_at self.old.arrivals.items place) ≡ false →
             (arrival : Arriving N.Connection) × (tried : N) × TakesOut self.old.arrivals.items place arrival self.new.arrivals.items
             × IsUnreached N.transition self.old.servers.now (key_of place Sides.Server) self.old.poller.table.reading arrival.gives_up arrival.tried
             self.old.poller.network tried }
@@ -593,16 +650,18 @@ impl<'w, N: Network, E: Sink + Drop> System<SocketPorts<'w, N::Connection>> for 
             (self.new.server ≡ reached_at self.old.poller.table.reading self.old.server) × (self.new.counts ≡ self.old.counts)
             × (self.new.unreached ≡ self.old.unreached) }
         ensures counted { result ≡ Connect.Failed →
-            (self.new.counts ≡ ending_counted (end_cause_of (why_unreached self.old.control.stops_now)) self.old.counts)
-            × (self.new.server ≡ (if self.old.control.stops_now then self.old.server
-            else away_at self.old.poller.table.reading self.old.server))
-            × (self.new.unreached ≡ (if self.old.control.stops_now then self.old.unreached
-            else one_more_unreached self.old.unreached)) }
+            (self.new.counts ≡ ending_counted (end_cause_of (why_unreached
+            (is_connect_stopped self.old.control (arrival_at self.old.arrivals.items place)))) self.old.counts)
+            × (self.new.server ≡ (if is_connect_stopped self.old.control (arrival_at self.old.arrivals.items place)
+            then self.old.server else away_at self.old.poller.table.reading self.old.server))
+            × (self.new.unreached ≡ (if is_connect_stopped self.old.control (arrival_at self.old.arrivals.items place)
+            then self.old.unreached else one_more_unreached self.old.unreached)) }
         ensures leaves { result ≡ Connect.Failed → (arrival : Arriving N.Connection)
             × TakesOut self.old.arrivals.items place arrival self.new.arrivals.items
             × (self.new.present.bots.items ≡ without_bot arrival.identity.number self.old.present.bots.items)
             × (noted : E) × Logs E.contents E.Fails self.old.is_verbose (end_notice arrival.identity self.old.poller.table.reading
-            (why_unreached self.old.control.stops_now) nothing_accounted) noted self.new.errors }
+            (why_unreached (is_connect_stopped self.old.control (arrival_at self.old.arrivals.items place)))
+            nothing_accounted) noted self.new.errors }
         ensures same { self.new ≡ record self.old {
           poller = self.new.poller;
           arrivals = self.new.arrivals;
@@ -619,7 +678,7 @@ impl<'w, N: Network, E: Sink + Drop> System<SocketPorts<'w, N::Connection>> for 
             return Connect::Pending;
         };
         let mut arrival = arrival;
-        if self.control.stops_now() {
+        if self.is_stop_requested(arrival.number()) {
             self.let_go(place, arrival.give_up(), Why::STOPPED);
             self.poller.table.is_bounded();
             return Connect::Failed;
@@ -665,9 +724,9 @@ impl<'w, N: Network, E: Sink + Drop> System<SocketPorts<'w, N::Connection>> for 
             self.old.poller.table.reading self.old.closings (pair_of ports.entry) self.new.closings }
         ensures present { self.new.present.bots.items ≡ without_bot ports.entry.identity.number self.old.present.bots.items }
         ensures logged { Logs E.contents E.Fails self.old.is_verbose (end_notice ports.entry.identity self.old.poller.table.reading
-            (why_retired end (timed_of ports.entry.sides) self.old.stall_seconds) end.account) self.old.errors self.new.errors }
+            (why_retired end (timed_of ports.entry.sides) ports.entry.stop self.old.stall_seconds) end.account) self.old.errors self.new.errors }
         ensures counted { self.new.counts ≡ ending_counted
-            (end_cause_of (why_retired end (timed_of ports.entry.sides) self.old.stall_seconds))
+            (end_cause_of (why_retired end (timed_of ports.entry.sides) ports.entry.stop self.old.stall_seconds))
             (session_counted end.account self.old.counts) }
         ensures same { self.new ≡ record self.old {
           poller = self.new.poller;
@@ -682,7 +741,8 @@ impl<'w, N: Network, E: Sink + Drop> System<SocketPorts<'w, N::Connection>> for 
         let lasted = Lasted::between(since, self.poller.table.now());
         let sockets = ports.sockets();
         let timed = PerSide::new(sockets.at(Side::Bot).timed, sockets.at(Side::Server).timed);
-        let why = why_of(end.cause, end.fault_field, &timed, self.stall_seconds);
+        let stop = ports.stop_cause();
+        let why = why_of(end.cause, end.fault_field, &timed, stop, self.stall_seconds);
         let account = end.account;
         self.counts.add_session(&account);
         self.counts.count_end(end_cause(why));
@@ -707,10 +767,6 @@ impl<'w, N: Network, E: Sink + Drop> System<SocketPorts<'w, N::Connection>> for 
         ensures same { self.new ≡ record self.old { errors = self.new.errors } }
     {
         self.poller.table.is_bounded();
-        // `connected` logs when the server is away, and when it is reached again.
-        if notice == Notice::CannotReach {
-            return;
-        }
         // The run goes on if the line cannot be written.
         let _ = writeln!(self.errors, "daide-gate: {notice}");
     }

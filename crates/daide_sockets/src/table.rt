@@ -23,8 +23,8 @@ use std::alloc::{AllocError, Allocator, Global};
 use std::marker::Model;
 use std::time::{Duration, Instant};
 
-/// The rows beside those of the places: of two listeners and of four control connections, and then of closing sockets.
-const FIXED_ROWS: usize = 6;
+/// The rows beside those of the places: of two listeners and of eight control connections, and then of closing sockets.
+const FIXED_ROWS: usize = 10;
 
 /// The row of one socket.
 #[derive(Drop, Clone, Copy)]
@@ -77,7 +77,7 @@ impl Model for SocketTable {
     } };
 
     // each place has a deadline, which is not before `due`, and two rows
-    ghost invariant = { λ t. (length t.deadlines.items ≡ t.places) × (2 * t.places + 6 ≤ vec_len t.rows)
+    ghost invariant = { λ t. (length t.deadlines.items ≡ t.places) × (2 * t.places + 10 ≤ vec_len t.rows)
         × AreBounded t.due t.deadlines.items };
 }
 
@@ -134,7 +134,7 @@ pub(crate) fn server_key(place: usize) -> usize
 
 /// Returns the number of rows for this number of places and of closing sockets; `None` if they are too many.
 fn row_count(places: usize, closing: usize) -> Option<usize>
-    ensures { IfSome result (λ count. count ≡ 2 * places + 6 + closing) }
+    ensures { IfSome result (λ count. count ≡ 2 * places + 10 + closing) }
 {
     places
         .checked_mul(2)?
@@ -268,7 +268,7 @@ impl SocketTable {
     /// Returns the number of places.
     pub(crate) fn places(&self) -> usize
         ensures count { result ≡ length self.now.deadlines }
-        ensures few { 2 * result + 6 ≤ usize.MAX }
+        ensures few { 2 * result + 10 ≤ usize.MAX }
     {
         self.places
     }
@@ -276,7 +276,7 @@ impl SocketTable {
     /// Returns the key of the row of the listener for bots.
     pub(crate) fn listener_key(&self) -> usize
         ensures key { result ≡ 2 * length self.now.deadlines }
-        ensures few { result + 6 ≤ usize.MAX }
+        ensures few { result + 10 ≤ usize.MAX }
     {
         self.places * 2
     }
@@ -288,9 +288,9 @@ impl SocketTable {
         self.listener_key() + 1
     }
 
-    /// Returns the key of the row of the control connection with this number, from 0 to 3.
+    /// Returns the key of the row of the control connection with this number, from 0 to 7.
     pub(crate) fn control_connection_key(&self, number: usize) -> usize
-        ensures { number < 4 → result ≡ 2 * length self.now.deadlines + 2 + number }
+        ensures { number < 8 → result ≡ 2 * length self.now.deadlines + 2 + number }
     {
         (self.listener_key() + 2).saturating_add(number)
     }

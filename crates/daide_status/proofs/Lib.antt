@@ -2,5 +2,6 @@ pub mod Aligned
 pub mod Chains
 pub mod Taken
 pub mod TextLemmas
-pub mod RequestFacts
+mod RequestFacts
+pub mod RequestLemmas
 mod StatusFacts

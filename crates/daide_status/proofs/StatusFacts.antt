@@ -6,6 +6,7 @@ use Rattle.daide_token.specs.Names.{name_of, names}
 use Rattle.daide_token.specs.Text.{text_with}
 use Rattle.daide_protocol.specs.declared.bot_name.BotName.TheVariants.{Unknown, Nme}
 use Rattle.daide_protocol.specs.BotName.{kept}
+use Rattle.daide_protocol.specs.Power.{of_token}
 use Rattle.std.specs.declared.net.socket_addr.SocketAddr.{SocketAddr}
 use Rattle.std.specs.declared.net.socket_addr.SocketAddr.TheVariants.{V4}
 use Rattle.daide_grammar.specs.declared.level.Level.TheVariants.{L0, L10, L20, L30, L40, L50, L60}
@@ -60,6 +61,8 @@ some_ends = record {
   server_silent = 114;
   bot_stalled = 115;
   server_stalled = 116;
+  bot_refused = 119;
+  server_refused = 120;
   turns_spent = 117;
   no_server = 118;
 }
@@ -105,6 +108,7 @@ first = record {
     faults = 6;
     level = L20;
     name = Nme (kept (codes "Al\"b\\rt"));
+    power = Some (of_token 0x4100);
   };
   queued_to_bot = 10;
   queued_to_server = 12;
@@ -131,6 +135,7 @@ second = record {
     faults = 0;
     level = L0;
     name = Unknown;
+    power = None;
   };
   queued_to_bot = 0;
   queued_to_server = 0;
@@ -149,7 +154,7 @@ second = record {
 abbrev columns : List ℕ
 columns =
     codes "                   from bot   from server     bytes for  bot\n"
-    ++ codes "   no phase   relay PRN HUH relay PRN HUH    bot server idle bot and its name\n"
+    ++ codes "   no phase   relay PRN HUH relay PRN HUH    bot server idle bot, its name and its power\n"
 
 table_of_none : status_text Table idle_run []
     ≡ codes "0 open, 0 connecting, 0 served, 0 unreached, up 7 s\nserver untried for 7 s, 0 unreached since\nended: 0 declined, 0 dropped\n"
@@ -164,11 +169,11 @@ busy_line =
     ++ codes "server away for 40 s, 12 unreached since\n"
     ++ codes "ended: 21 declined, 22 dropped, 101 bot ended, 102 server ended, 103 bot lost, 104 server lost, 105 FM of bot"
     ++ codes ", 106 FM of server, 107 EM of bot, 108 EM of server, 109 fault of bot, 110 fault of server"
-    ++ codes ", 112 stopped by the operator, 113 bot silent, 114 server silent, 115 bot took nothing, 116 server took nothing"
+    ++ codes ", 112 stopped by the operator, 113 bot silent, 114 server silent, 115 bot took nothing, 116 server took nothing, 119 too many refusals of bot, 120 too many refusals of server"
     ++ codes ", 117 turns spent, 118 no server\n"
 
 abbrev first_line : List ℕ
-first_line = codes "    1 open 20    87   2   3    95   7   8     40     16    0 127.0.0.1:50000 NME 'Al\"b\\rt'\n"
+first_line = codes "    1 open 20    87   2   3    95   7   8     40     16    0 127.0.0.1:50000 NME 'Al\"b\\rt' AUS\n"
 
 abbrev second_line : List ℕ
 second_line = codes "   12 wait RM     1   0   0     0   0   0      0      8    5 10.0.0.7:6\n"
@@ -207,7 +212,7 @@ document_of_none : status_text Json idle_run []
     ++ codes ",\"huh\":{\"bot\":0,\"server\":0}}"
     ++ codes ",\"ends\":{\"bot ended\":0,\"server ended\":0,\"bot lost\":0,\"server lost\":0,\"FM of bot\":0,\"FM of server\":0"
     ++ codes ",\"EM of bot\":0,\"EM of server\":0,\"fault of bot\":0,\"fault of server\":0,\"no IM in time\":0,\"stopped by the operator\":0"
-    ++ codes ",\"bot silent\":0,\"server silent\":0,\"bot took nothing\":0,\"server took nothing\":0,\"turns spent\":0,\"no server\":0}}}\n"
+    ++ codes ",\"bot silent\":0,\"server silent\":0,\"bot took nothing\":0,\"server took nothing\":0,\"too many refusals of bot\":0,\"too many refusals of server\":0,\"turns spent\":0,\"no server\":0}}}\n"
 unfolding digits text_with name_of names json_sides json_ended json_further
 document_of_none = refl
 
@@ -221,7 +226,7 @@ abbrev ends_members : List ℕ
 ends_members =
     codes ",\"ends\":{\"bot ended\":101,\"server ended\":102,\"bot lost\":103,\"server lost\":104,\"FM of bot\":105,\"FM of server\":106"
     ++ codes ",\"EM of bot\":107,\"EM of server\":108,\"fault of bot\":109,\"fault of server\":110,\"no IM in time\":0,\"stopped by the operator\":112"
-    ++ codes ",\"bot silent\":113,\"server silent\":114,\"bot took nothing\":115,\"server took nothing\":116,\"turns spent\":117,\"no server\":118}}}\n"
+    ++ codes ",\"bot silent\":113,\"server silent\":114,\"bot took nothing\":115,\"server took nothing\":116,\"too many refusals of bot\":119,\"too many refusals of server\":120,\"turns spent\":117,\"no server\":118}}}\n"
 
 -- the counts of the run and of the first session
 abbrev counts_of_one : List ℕ
@@ -239,13 +244,13 @@ counts_of_two =
 
 abbrev first_object : List ℕ
 first_object =
-    codes "{\"session\":1,\"bot\":\"127.0.0.1:50000\",\"phase\":\"open\",\"level\":20,\"port_to_server\":40000,\"name\":\"NME 'Al\\\"b\\\\rt'\",\"relayed\":{\"bot\":87,\"server\":95},\"prn\":{\"bot\":2,\"server\":7}"
+    codes "{\"session\":1,\"bot\":\"127.0.0.1:50000\",\"phase\":\"open\",\"level\":20,\"port_to_server\":40000,\"name\":\"NME 'Al\\\"b\\\\rt'\",\"power\":\"AUS\",\"relayed\":{\"bot\":87,\"server\":95},\"prn\":{\"bot\":2,\"server\":7}"
     ++ codes ",\"huh\":{\"bot\":3,\"server\":8},\"faults\":6"
     ++ codes ",\"queued\":{\"bot\":10,\"server\":12},\"held\":{\"bot\":30,\"server\":4},\"received\":{\"bot\":1234,\"server\":567890},\"sent\":{\"bot\":98765,\"server\":4321},\"idle_seconds\":{\"bot\":0,\"server\":61}}"
 
 abbrev second_object : List ℕ
 second_object =
-    codes "{\"session\":12,\"bot\":\"10.0.0.7:6\",\"phase\":\"wait RM\",\"level\":0,\"port_to_server\":null,\"name\":null,\"relayed\":{\"bot\":1,\"server\":0},\"prn\":{\"bot\":0,\"server\":0}"
+    codes "{\"session\":12,\"bot\":\"10.0.0.7:6\",\"phase\":\"wait RM\",\"level\":0,\"port_to_server\":null,\"name\":null,\"power\":null,\"relayed\":{\"bot\":1,\"server\":0},\"prn\":{\"bot\":0,\"server\":0}"
     ++ codes ",\"huh\":{\"bot\":0,\"server\":0},\"faults\":0"
     ++ codes ",\"queued\":{\"bot\":0,\"server\":0},\"held\":{\"bot\":0,\"server\":8},\"received\":{\"bot\":8,\"server\":0},\"sent\":{\"bot\":0,\"server\":7},\"idle_seconds\":{\"bot\":5,\"server\":null}}"
 
@@ -312,6 +317,8 @@ idle_metrics =
     ++ codes "daide_gate_ended_total{cause=\"server silent\"} 0\n"
     ++ codes "daide_gate_ended_total{cause=\"bot took nothing\"} 0\n"
     ++ codes "daide_gate_ended_total{cause=\"server took nothing\"} 0\n"
+    ++ codes "daide_gate_ended_total{cause=\"too many refusals of bot\"} 0\n"
+    ++ codes "daide_gate_ended_total{cause=\"too many refusals of server\"} 0\n"
     ++ codes "daide_gate_ended_total{cause=\"turns spent\"} 0\n"
     ++ codes "daide_gate_ended_total{cause=\"no server\"} 0\n"
     ++ codes "# HELP daide_gate_frames_total Frames of all sessions, also of those that ended, by side and by what was done with them.\n# TYPE daide_gate_frames_total counter\n"
@@ -365,6 +372,8 @@ totals_of_one =
     ++ codes "daide_gate_ended_total{cause=\"server silent\"} 114\n"
     ++ codes "daide_gate_ended_total{cause=\"bot took nothing\"} 115\n"
     ++ codes "daide_gate_ended_total{cause=\"server took nothing\"} 116\n"
+    ++ codes "daide_gate_ended_total{cause=\"too many refusals of bot\"} 119\n"
+    ++ codes "daide_gate_ended_total{cause=\"too many refusals of server\"} 120\n"
     ++ codes "daide_gate_ended_total{cause=\"turns spent\"} 117\n"
     ++ codes "daide_gate_ended_total{cause=\"no server\"} 118\n"
     ++ codes "# HELP daide_gate_frames_total Frames of all sessions, also of those that ended, by side and by what was done with them.\n# TYPE daide_gate_frames_total counter\n"
@@ -398,6 +407,8 @@ totals_of_two =
     ++ codes "daide_gate_ended_total{cause=\"server silent\"} 114\n"
     ++ codes "daide_gate_ended_total{cause=\"bot took nothing\"} 115\n"
     ++ codes "daide_gate_ended_total{cause=\"server took nothing\"} 116\n"
+    ++ codes "daide_gate_ended_total{cause=\"too many refusals of bot\"} 119\n"
+    ++ codes "daide_gate_ended_total{cause=\"too many refusals of server\"} 120\n"
     ++ codes "daide_gate_ended_total{cause=\"turns spent\"} 117\n"
     ++ codes "daide_gate_ended_total{cause=\"no server\"} 118\n"
     ++ codes "# HELP daide_gate_frames_total Frames of all sessions, also of those that ended, by side and by what was done with them.\n# TYPE daide_gate_frames_total counter\n"
@@ -437,7 +448,7 @@ first_idle =
     ++ codes "daide_gate_session_idle_seconds{session=\"1\",bot=\"127.0.0.1:50000\",side=\"server\"} 61\n"
 
 abbrev first_level : List ℕ
-first_level = codes "daide_gate_session_level{session=\"1\",bot=\"127.0.0.1:50000\",phase=\"open\",name=\"NME 'Al\\\"b\\\\rt'\"} 20\n"
+first_level = codes "daide_gate_session_level{session=\"1\",bot=\"127.0.0.1:50000\",phase=\"open\",name=\"NME 'Al\\\"b\\\\rt'\",power=\"AUS\"} 20\n"
 
 metrics_of_one : status_text Prometheus busy_run (first ∷ [])
     ≡ busy_metrics ++ totals_of_one ++ frames_head ++ first_frames ++ bytes_head ++ first_bytes ++ waiting_head ++ first_waiting ++ idle_head ++ first_idle ++ level_head
@@ -510,6 +521,8 @@ counted_once : each_once all_causes (record no_counts { ends = some_ends })
         server_silent = 115;
         bot_stalled = 116;
         server_stalled = 117;
+        bot_refused = 120;
+        server_refused = 121;
         turns_spent = 118;
         no_server = 119;
       };

@@ -1,6 +1,6 @@
 -- The status of a run as a table: a line of the run, one of the server and one of what ended, the names of the columns, and
 -- a line for each session. (own)
-use Rattle.std.specs.Prelude.{ℕ, ◌+◌, ◌++◌, ◌==◌, if◌then◌else◌, List, [], codes}
+use Rattle.std.specs.Prelude.{ℕ, ◌+◌, ◌++◌, ◌==◌, if◌then◌else◌, List, [], Option, Some, None, codes}
 use Rattle.std.specs.List.{flat_map}
 use Rattle.std.specs.Fmt.{decimal}
 use Rattle.std.specs.Net.Text.{socket_text}
@@ -12,7 +12,9 @@ use Rattle.daide_protocol.specs.declared.bot_name.BotName.TheVariants.{Unknown, 
 use Rattle.daide_protocol.specs.declared.account.Counter.{Counter}
 use Rattle.daide_protocol.specs.declared.account.Counter.TheVariants.{Relayed, Prn, Huh}
 use Rattle.daide_protocol.specs.Account.{all_counters, side_count}
+use Rattle.daide_protocol.specs.declared.power.Power.{Power}
 use Rattle.daide_protocol.specs.BotName.{name_text}
+use Rattle.daide_protocol.specs.Power.{power_text}
 use Rattle.daide_protocol.specs.declared.phase.Phase.{Phase}
 use Rattle.daide_protocol.specs.declared.phase.Phase.TheVariants.{WaitIm, WaitRm, Open, Over}
 use Rattle.daide_status.specs.declared.counts.EndCause.{EndCause}
@@ -78,7 +80,7 @@ ended_line c = no_sessions c ++ ended_items c.ends ++ codes "\n"
 abbrev pub column_names : List ℕ
 column_names =
     codes "                   from bot   from server     bytes for  bot\n"
-    ++ codes "   no phase   relay PRN HUH relay PRN HUH    bot server idle bot and its name\n"
+    ++ codes "   no phase   relay PRN HUH relay PRN HUH    bot server idle bot, its name and its power\n"
 
 -- the lines before the first session
 abbrev pub table_head : RunStatus → List ℕ
@@ -100,9 +102,15 @@ name_cell Unknown = []
 name_cell (Nme text) = codes " " ++ name_text (Nme text)
 name_cell (Iam power) = codes " " ++ name_text (Iam power)
 
+-- the power of a bot after its name; nothing if the server has said none
+abbrev pub power_cell : Option Power → List ℕ
+power_cell None = []
+power_cell (Some power) = codes " " ++ power_text power
+
 -- the bot of a session, and the end of its line
 abbrev pub bot_cells : SessionRow → List ℕ
-bot_cells row = codes " " ++ socket_text row.bot ++ name_cell row.account.name ++ codes "\n"
+bot_cells row =
+    codes " " ++ socket_text row.bot ++ name_cell row.account.name ++ power_cell row.account.power ++ codes "\n"
 
 -- the number of a session and its phase
 abbrev pub session_cells : SessionRow → List ℕ

@@ -5,7 +5,7 @@ use Rattle.daide_protocol.specs.declared.account.Account.{Account}
 use Rattle.daide_protocol.specs.declared.account.SideCounts.{SideCounts}
 use Rattle.daide_protocol.specs.Account.{no_frames}
 use Rattle.daide_status.specs.declared.counts.EndCause.{EndCause}
-use Rattle.daide_status.specs.declared.counts.EndCause.TheVariants.{Ended, Lost, Final, Error, Fault, NoIm, Stopped, Silent, Stalled, TurnsSpent, NoServer}
+use Rattle.daide_status.specs.declared.counts.EndCause.TheVariants.{Ended, Lost, Final, Error, Fault, NoIm, Stopped, Silent, Stalled, Refused, TurnsSpent, NoServer}
 use Rattle.daide_status.specs.declared.counts.EndCounts.{EndCounts}
 use Rattle.daide_status.specs.declared.counts.RunCounts.{RunCounts}
 use Rattle.daide_status.specs.declared.snapshot.SessionRow.{SessionRow}
@@ -20,7 +20,8 @@ count_sum count more = (count + more) % 2 ^ 64
 abbrev pub other_causes : List EndCause
 other_causes =
     Ended Server ∷ Lost Bot ∷ Lost Server ∷ Final Bot ∷ Final Server ∷ Error Bot ∷ Error Server ∷ Fault Bot ∷ Fault Server
-    ∷ NoIm ∷ Stopped ∷ Silent Bot ∷ Silent Server ∷ Stalled Bot ∷ Stalled Server ∷ TurnsSpent ∷ NoServer ∷ []
+    ∷ NoIm ∷ Stopped ∷ Silent Bot ∷ Silent Server ∷ Stalled Bot ∷ Stalled Server ∷ Refused Bot ∷ Refused Server
+    ∷ TurnsSpent ∷ NoServer ∷ []
 
 abbrev pub all_causes : List EndCause
 all_causes = Ended Bot ∷ other_causes
@@ -43,6 +44,8 @@ end_cause_name (Silent Bot) = codes "bot silent"
 end_cause_name (Silent Server) = codes "server silent"
 end_cause_name (Stalled Bot) = codes "bot took nothing"
 end_cause_name (Stalled Server) = codes "server took nothing"
+end_cause_name (Refused Bot) = codes "too many refusals of bot"
+end_cause_name (Refused Server) = codes "too many refusals of server"
 end_cause_name TurnsSpent = codes "turns spent"
 end_cause_name NoServer = codes "no server"
 
@@ -66,6 +69,8 @@ no_ends = record {
   server_silent = 0;
   bot_stalled = 0;
   server_stalled = 0;
+  bot_refused = 0;
+  server_refused = 0;
   turns_spent = 0;
   no_server = 0;
 }
@@ -88,6 +93,8 @@ end_count (Silent Bot) e = e.bot_silent
 end_count (Silent Server) e = e.server_silent
 end_count (Stalled Bot) e = e.bot_stalled
 end_count (Stalled Server) e = e.server_stalled
+end_count (Refused Bot) e = e.bot_refused
+end_count (Refused Server) e = e.server_refused
 end_count TurnsSpent e = e.turns_spent
 end_count NoServer e = e.no_server
 
@@ -109,6 +116,8 @@ end_counted (Silent Bot) e = record e { bot_silent = count_sum e.bot_silent 1 }
 end_counted (Silent Server) e = record e { server_silent = count_sum e.server_silent 1 }
 end_counted (Stalled Bot) e = record e { bot_stalled = count_sum e.bot_stalled 1 }
 end_counted (Stalled Server) e = record e { server_stalled = count_sum e.server_stalled 1 }
+end_counted (Refused Bot) e = record e { bot_refused = count_sum e.bot_refused 1 }
+end_counted (Refused Server) e = record e { server_refused = count_sum e.server_refused 1 }
 end_counted TurnsSpent e = record e { turns_spent = count_sum e.turns_spent 1 }
 end_counted NoServer e = record e { no_server = count_sum e.no_server 1 }
 

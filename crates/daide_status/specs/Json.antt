@@ -1,6 +1,7 @@
--- The status of a run as one JSON document. An address and the name of a phase need no escape; a bot's name may need one,
--- and has printable characters alone. (own)
-use Rattle.std.specs.Prelude.{ℕ, ◌++◌, Bool, if◌then◌else◌, List, [], ◌∷◌, codes}
+-- The status of a run as one JSON document. An address, the name of a phase and a power need no escape; a bot's name may
+-- need one, and has printable characters alone. (own)
+use Rattle.std.specs.Prelude.{ℕ, ◌++◌, Bool, if◌then◌else◌, List, [], ◌∷◌, Option, Some, None}
+use Rattle.std.specs.Prelude.{codes}
 use Rattle.std.specs.List.{flat_map}
 use Rattle.std.specs.Fmt.{decimal}
 use Rattle.std.specs.Net.Text.{socket_text}
@@ -11,6 +12,8 @@ use Rattle.daide_protocol.specs.declared.account.Account.{Account}
 use Rattle.daide_protocol.specs.declared.account.SideCounts.{SideCounts}
 use Rattle.daide_protocol.specs.declared.bot_name.BotName.{BotName}
 use Rattle.daide_protocol.specs.declared.bot_name.BotName.TheVariants.{Unknown, Nme, Iam}
+use Rattle.daide_protocol.specs.declared.power.Power.{Power}
+use Rattle.daide_protocol.specs.Power.{power_text}
 use Rattle.daide_frame.specs.declared.side.Side.TheVariants.{Bot}
 use Rattle.daide_status.specs.declared.counts.EndCause.{EndCause}
 use Rattle.daide_status.specs.declared.counts.EndCause.TheVariants.{Ended}
@@ -67,9 +70,14 @@ name_or_null (Iam power) = quoted_name (Iam power)
 abbrev pub json_name : BotName → List ℕ
 json_name name = codes ",\"name\":" ++ name_or_null name
 
+-- the power that the bot plays, or `null`
+abbrev pub json_power : Option Power → List ℕ
+json_power None = codes ",\"power\":null"
+json_power (Some power) = codes ",\"power\":\"" ++ power_text power ++ codes "\""
+
 -- all that comes before the counts
 abbrev pub json_identity : SessionRow → List ℕ
-json_identity row = json_session row ++ json_port row ++ json_name row.account.name
+json_identity row = json_session row ++ json_port row ++ json_name row.account.name ++ json_power row.account.power
 
 -- two numbers, of the bot and of the server
 unfoldable pub json_sides : List ℕ → ℕ → ℕ → List ℕ

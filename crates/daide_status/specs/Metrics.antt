@@ -1,5 +1,5 @@
--- The status of a run in the text format of Prometheus. An address and the name of a phase need no escape in a label; a
--- bot's name may need one, and has printable characters alone. (own)
+-- The status of a run in the text format of Prometheus. An address, the name of a phase and a power need no escape in a
+-- label; a bot's name may need one, and has printable characters alone. (own)
 use Rattle.std.specs.Prelude.{ℕ, ◌+◌, ◌++◌, Bool, true, false, List, [], Option, Some, None, codes}
 use Rattle.std.specs.Fmt.{decimal}
 use Rattle.std.specs.List.{flat_map}
@@ -11,6 +11,8 @@ use Rattle.daide_protocol.specs.declared.account.SideCounts.{SideCounts}
 use Rattle.daide_protocol.specs.declared.bot_name.BotName.{BotName}
 use Rattle.daide_protocol.specs.declared.bot_name.BotName.TheVariants.{Unknown, Nme, Iam}
 use Rattle.daide_protocol.specs.declared.phase.Phase.{Phase}
+use Rattle.daide_protocol.specs.declared.power.Power.{Power}
+use Rattle.daide_protocol.specs.Power.{power_text}
 use Rattle.daide_status.specs.declared.snapshot.RunStatus.{RunStatus}
 use Rattle.daide_status.specs.declared.snapshot.ServerState.{ServerState}
 use Rattle.daide_status.specs.declared.snapshot.ServerState.TheVariants.{Untried, Up, Away}
@@ -151,10 +153,16 @@ name_label Unknown = []
 name_label (Nme text) = codes ",name=" ++ quoted_name (Nme text)
 name_label (Iam power) = codes ",name=" ++ quoted_name (Iam power)
 
--- the level of a session, with its phase and its bot's name
+-- the label of a bot's power, if the server has said one
+abbrev pub power_label : Option Power → List ℕ
+power_label None = []
+power_label (Some power) = codes ",power=\"" ++ power_text power ++ codes "\""
+
+-- the level of a session, with its phase, its bot's name and its power
 abbrev pub level_sample : SessionRow → List ℕ
 level_sample row =
-    sample_front (codes "session_level") row ++ phase_label row.phase ++ name_label row.account.name ++ sample_end (level_number row.level)
+    sample_front (codes "session_level") row ++ phase_label row.phase ++ name_label row.account.name
+    ++ power_label row.account.power ++ sample_end (level_number row.level)
 
 -- a metric of the sessions, with all its samples
 abbrev pub session_metric : List ℕ → List ℕ → List ℕ → List ℕ → List ℕ

@@ -28,6 +28,8 @@ pub enum EndCause {
     Silent(Side),
     /// This side accepted no byte for the stall timeout, while some were queued for it.
     Stalled(Side),
+    /// As many messages of this side were refused as the settings allow.
+    Refused(Side),
     /// The session used all its turns.
     TurnsSpent,
     /// The server could not be reached.
@@ -53,6 +55,8 @@ pub struct EndCounts {
     pub server_silent: u64,
     pub bot_stalled: u64,
     pub server_stalled: u64,
+    pub bot_refused: u64,
+    pub server_refused: u64,
     pub turns_spent: u64,
     pub no_server: u64,
 }
@@ -95,7 +99,7 @@ fn side_sum(counts: SideCounts, more: SideCounts) -> SideCounts
 
 impl EndCause {
     /// All causes, in the order in which texts have them.
-    pub const ALL: [EndCause; 18] = [
+    pub const ALL: [EndCause; 20] = [
         EndCause::Ended(Side::Bot),
         EndCause::Ended(Side::Server),
         EndCause::Lost(Side::Bot),
@@ -112,6 +116,8 @@ impl EndCause {
         EndCause::Silent(Side::Server),
         EndCause::Stalled(Side::Bot),
         EndCause::Stalled(Side::Server),
+        EndCause::Refused(Side::Bot),
+        EndCause::Refused(Side::Server),
         EndCause::TurnsSpent,
         EndCause::NoServer,
     ];
@@ -137,6 +143,8 @@ impl EndCause {
             EndCause::Silent(Side::Server) => "server silent",
             EndCause::Stalled(Side::Bot) => "bot took nothing",
             EndCause::Stalled(Side::Server) => "server took nothing",
+            EndCause::Refused(Side::Bot) => "too many refusals of bot",
+            EndCause::Refused(Side::Server) => "too many refusals of server",
             EndCause::TurnsSpent => "turns spent",
             EndCause::NoServer => "no server",
         }
@@ -165,6 +173,8 @@ impl EndCounts {
             server_silent: 0,
             bot_stalled: 0,
             server_stalled: 0,
+            bot_refused: 0,
+            server_refused: 0,
             turns_spent: 0,
             no_server: 0,
         }
@@ -191,6 +201,8 @@ impl EndCounts {
             EndCause::Silent(Side::Server) => self.server_silent,
             EndCause::Stalled(Side::Bot) => self.bot_stalled,
             EndCause::Stalled(Side::Server) => self.server_stalled,
+            EndCause::Refused(Side::Bot) => self.bot_refused,
+            EndCause::Refused(Side::Server) => self.server_refused,
             EndCause::TurnsSpent => self.turns_spent,
             EndCause::NoServer => self.no_server,
         }
@@ -218,6 +230,8 @@ impl EndCounts {
             EndCause::Silent(Side::Server) => self.server_silent = more,
             EndCause::Stalled(Side::Bot) => self.bot_stalled = more,
             EndCause::Stalled(Side::Server) => self.server_stalled = more,
+            EndCause::Refused(Side::Bot) => self.bot_refused = more,
+            EndCause::Refused(Side::Server) => self.server_refused = more,
             EndCause::TurnsSpent => self.turns_spent = more,
             EndCause::NoServer => self.no_server = more,
         }

@@ -2,18 +2,18 @@
 
 ghost use Rattle.daide_status.specs.Pieces.{AppendsOrRefused};
 ghost use Rattle.daide_status.specs.Json.{json_counters, json_end, json_ended, json_ends, json_further, json_lost, json_server};
-ghost use Rattle.daide_status.specs.Json.{json_counts, json_faults, json_head, json_identity, json_bytes, json_idle, json_waiting, json_name, json_port, json_row, json_run_counts, json_run_state, json_sides, json_session, name_or_null};
+ghost use Rattle.daide_status.specs.Json.{json_counts, json_faults, json_head, json_identity, json_bytes, json_idle, json_waiting, json_name, json_port, json_power, json_row, json_run_counts, json_run_state, json_sides, json_session, name_or_null};
 
 use crate::counts::{EndCause, EndCounts, RunCounts};
 use crate::pieces::{phase_name, port_number, put_or_null, put_quoted_name};
 use crate::snapshot::{RunStatus, ServerStatus, SessionRow};
 use daide_causes::Growth;
 use daide_frame::Side;
-use daide_protocol::{Account, BotName, Counter, SideCounts};
+use daide_protocol::{Account, BotName, Counter, Power, SideCounts};
 use std::alloc::AllocError;
 
 /// All causes but the first, in their order.
-const OTHER_CAUSES: [EndCause; 17] = [
+const OTHER_CAUSES: [EndCause; 19] = [
     EndCause::Ended(Side::Server),
     EndCause::Lost(Side::Bot),
     EndCause::Lost(Side::Server),
@@ -29,6 +29,8 @@ const OTHER_CAUSES: [EndCause; 17] = [
     EndCause::Silent(Side::Server),
     EndCause::Stalled(Side::Bot),
     EndCause::Stalled(Side::Server),
+    EndCause::Refused(Side::Bot),
+    EndCause::Refused(Side::Server),
     EndCause::TurnsSpent,
     EndCause::NoServer,
 ];
@@ -143,13 +145,24 @@ fn put_name_member<A: Growth>(name: &BotName, out: &mut Vec<u8, A>) -> Result<()
     put_name_or_null(name, out)
 }
 
+/// Appends the power that the bot plays as a member, or `null`.
+fn put_power_member<A: Growth>(power: Option<Power>, out: &mut Vec<u8, A>) -> Result<(), AllocError>
+    ensures { AppendsOrRefused A.Refuses out.old out.new result (json_power power) }
+{
+    match power {
+        None => A::append(out, b",\"power\":null"),
+        Some(power) => A::append_text(out, format_args!(",\"power\":\"{power}\"")),
+    }
+}
+
 /// Appends all that comes before the counts of a session.
 fn put_identity<A: Growth>(row: &SessionRow, out: &mut Vec<u8, A>) -> Result<(), AllocError>
     ensures { AppendsOrRefused A.Refuses out.old out.new result (json_identity row.now) }
 {
     put_session(row, out)?;
     put_port(row, out)?;
-    put_name_member(&row.account.name, out)
+    put_name_member(&row.account.name, out)?;
+    put_power_member(row.account.power, out)
 }
 
 /// Appends two numbers, of the bot and of the server, as a member.

@@ -5,12 +5,12 @@ ghost use Rattle.daide_status.specs.Metrics.{count_labels, count_sample, side_sa
 ghost use Rattle.daide_status.specs.Metrics.{accepted_bots, admission_metrics, presence_metrics, server_metrics, server_up_sample};
 ghost use Rattle.daide_status.specs.Metrics.{metric_head, metrics_head, phase_label, run_metric, session_sample, waiting_samples};
 ghost use Rattle.daide_status.specs.Pieces.{AppendsOrRefused, quoted_name};
-ghost use Rattle.daide_status.specs.Metrics.{byte_samples, session_counters, sample_front, name_label, run_sample, sample_end, session_metric, session_metrics, waiting_metrics};
+ghost use Rattle.daide_status.specs.Metrics.{byte_samples, session_counters, sample_front, name_label, power_label, run_sample, sample_end, session_metric, session_metrics, waiting_metrics};
 
 use crate::pieces::{put_quoted_name, sum};
 use crate::snapshot::{RunStatus, ServerState, ServerStatus, SessionRow};
 use daide_causes::Growth;
-use daide_protocol::{BotName, Counter, Phase, SideCounts};
+use daide_protocol::{BotName, Counter, Phase, Power, SideCounts};
 use std::alloc::{AllocError, Allocator};
 
 /// The samples of all sessions, by metric, since a metric has all its samples together.
@@ -401,13 +401,24 @@ fn put_name_label<A: Growth>(name: &BotName, out: &mut Vec<u8, A>) -> Result<(),
     }
 }
 
-/// Appends the level of a session, with its phase and its bot's name.
+/// Appends the label of a bot's power, if the server has said one.
+fn put_power_label<A: Growth>(power: Option<Power>, out: &mut Vec<u8, A>) -> Result<(), AllocError>
+    ensures { AppendsOrRefused A.Refuses out.old out.new result (power_label power) }
+{
+    match power {
+        None => Ok(()),
+        Some(power) => A::append_text(out, format_args!(",power=\"{power}\"")),
+    }
+}
+
+/// Appends the level of a session, with its phase, its bot's name and its power.
 pub(crate) fn put_level<A: Growth>(row: &SessionRow, out: &mut Vec<u8, A>) -> Result<(), AllocError>
     ensures { AppendsOrRefused A.Refuses out.old out.new result (level_sample row.now) }
 {
     put_sample_front("session_level", row, out)?;
     A::append(out, phase_label(row.phase).as_bytes())?;
     put_name_label(&row.account.name, out)?;
+    put_power_label(row.account.power, out)?;
     put_sample_end(row.level.number() as u128, out)
 }
 

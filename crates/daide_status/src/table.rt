@@ -4,7 +4,7 @@
 ghost use Rattle.std.specs.Prelude.{◌≡◌, ◌++◌, codes};
 ghost use Rattle.daide_protocol.specs.BotName.{name_text};
 ghost use Rattle.daide_status.specs.Pieces.{AppendsOrRefused};
-ghost use Rattle.daide_status.specs.Columns.{bot_cells, counter_width, ended_item, ended_items, ended_line, name_cell, no_sessions, open_cell, phase_cell};
+ghost use Rattle.daide_status.specs.Columns.{bot_cells, counter_width, ended_item, ended_items, ended_line, name_cell, no_sessions, open_cell, phase_cell, power_cell};
 ghost use Rattle.daide_status.specs.Columns.{run_line, server_line, session_cells, side_cells, table_head, table_row, totals, waiting_cells};
 
 use crate::counts::{EndCause, EndCounts, RunCounts};
@@ -12,7 +12,7 @@ use crate::pieces::{put_cell, put_if, put_name, put_or_dash, sum};
 use crate::snapshot::{RunStatus, ServerStatus, SessionRow};
 use daide_causes::Growth;
 use daide_grammar::Level;
-use daide_protocol::{BotName, Counter, Phase, SideCounts};
+use daide_protocol::{BotName, Counter, Phase, Power, SideCounts};
 use std::alloc::AllocError;
 
 /// Returns the phase of an open session with its level, in seven bytes.
@@ -146,7 +146,7 @@ pub(crate) fn put_table_head<A: Growth>(
     put_ended_line(&run.counts, out)?;
     A::append(
         out,
-        b"                   from bot   from server     bytes for  bot\n   no phase   relay PRN HUH relay PRN HUH    bot server idle bot and its name\n",
+        b"                   from bot   from server     bytes for  bot\n   no phase   relay PRN HUH relay PRN HUH    bot server idle bot, its name and its power\n",
     )
 }
 
@@ -190,6 +190,16 @@ fn put_name_cell<A: Growth>(name: &BotName, out: &mut Vec<u8, A>) -> Result<(), 
     }
 }
 
+/// Appends the power of a bot after its name.
+fn put_power_cell<A: Growth>(power: Option<Power>, out: &mut Vec<u8, A>) -> Result<(), AllocError>
+    ensures { AppendsOrRefused A.Refuses out.old out.new result (power_cell power) }
+{
+    match power {
+        None => Ok(()),
+        Some(power) => A::append_text(out, format_args!(" {power}")),
+    }
+}
+
 /// Appends the bot of a session, and the end of its line.
 fn put_bot<A: Growth>(row: &SessionRow, out: &mut Vec<u8, A>) -> Result<(), AllocError>
     ensures { AppendsOrRefused A.Refuses out.old out.new result (bot_cells row.now) }
@@ -197,6 +207,7 @@ fn put_bot<A: Growth>(row: &SessionRow, out: &mut Vec<u8, A>) -> Result<(), Allo
     let bot = row.bot;
     A::append_text(out, format_args!(" {bot}"))?;
     put_name_cell(&row.account.name, out)?;
+    put_power_cell(row.account.power, out)?;
     A::append(out, b"\n")
 }
 

@@ -12,18 +12,18 @@ said_of (Ok status) P one said holds = holds status one said
 said_of (Err error) P one said holds = tt
 
 module _ {F : Type 0} (Opens : List ℕ → Result F ErrorKind → Type 0) (remaining : F → Option (List ℕ))
-    (is_explained : Bool) (Says : LogSaying) where
+    (is_explained : Bool) (Says : LogSaying) (refused : Type 0) where
   -- the reports of no logs
   pub none_left : (rest : List (Bor (List ℕ))) (known old said : Option (List ℕ)) (status : ℕ) → length rest < 1 →
-      ChecksEach Opens remaining is_explained Says (map (λ path. path.now) rest) known known old old said said status status
+      ChecksEach Opens remaining is_explained Says refused (map (λ path. path.now) rest) known known old old said said status status
   none_left [] known old said status few = (refl, refl, refl, refl)
   none_left (path ∷ rest) known old said status few = absurd (omega (arith, few))
 
   -- several logs are not one
   pub not_one : (paths : List (Bor (List ℕ))) (known rest old new said_before said : Option (List ℕ)) (status : ℕ) →
       length paths ≢ 1 →
-      ChecksSeveral Opens remaining is_explained Says (map (λ path. path.now) paths) known rest old new said_before said status →
-      ChecksNames Opens remaining is_explained Says (map (λ path. path.now) paths) known rest old new said_before said status
+      ChecksSeveral Opens remaining is_explained Says refused (map (λ path. path.now) paths) known rest old new said_before said status →
+      ChecksNames Opens remaining is_explained Says refused (map (λ path. path.now) paths) known rest old new said_before said status
   not_one [] known rest old new said_before said status other h = h
   not_one (path ∷ []) known rest old new said_before said status other h = absurd (other refl)
   not_one (path ∷ next ∷ paths) known rest old new said_before said status other h = h
@@ -31,17 +31,17 @@ module _ {F : Type 0} (Opens : List ℕ → Result F ErrorKind → Type 0) (rema
 -- ---- whatever is said on standard error
 
 -- the cause of a fault stays
-caused : (read write unsaid : Type 0) (label : Option (List ℕ)) (name : List ℕ) (result : Result ℕ LogFault)
-    (old new : Option (List ℕ)) → SaysOfNamed read write unsaid label name result old new →
-    HasCheckCause read write label name result None None
-caused read write unsaid label name (Ok status) old new h = tt
-caused read write unsaid label name (Err fault) old new h = h.0
+caused : (IsUnread : List ℕ → Type 0) (refused write unsaid : Type 0) (label : Option (List ℕ)) (name : List ℕ)
+    (result : Result ℕ LogFault) (old new : Option (List ℕ)) → SaysOfNamed IsUnread write unsaid refused label name result old new →
+    HasCheckCause IsUnread write refused label name result None None
+caused IsUnread refused write unsaid label name (Ok status) old new h = tt
+caused IsUnread refused write unsaid label name (Err fault) old new h = h.0
 
 module _ {F : Type 0} (Opens : List ℕ → Result F ErrorKind → Type 0) (remaining : F → Option (List ℕ))
-    (is_explained : Bool) (read write unsaid : Type 0) where
+    (is_explained : Bool) (IsUnread : List ℕ → Type 0) (refused write unsaid : Type 0) where
   each_unsaid : (names : List (List ℕ)) (known rest old new said_before said : Option (List ℕ)) (before status : ℕ) →
-      ChecksEach Opens remaining is_explained (SaysOfNamed read write unsaid) names known rest old new said_before said before status →
-      ChecksEach Opens remaining is_explained (HasCheckCause read write) names known rest old new None None before status
+      ChecksEach Opens remaining is_explained (SaysOfNamed IsUnread write unsaid) refused names known rest old new said_before said before status →
+      ChecksEach Opens remaining is_explained (HasCheckCause IsUnread write) refused names known rest old new None None before status
   each_unsaid [] known rest old new said_before said before status h = (h.0, h.1, refl, h.3)
   each_unsaid (name ∷ names) known rest old new said_before said before status h =
       let one = h.4 in (
@@ -49,20 +49,20 @@ module _ {F : Type 0} (Opens : List ℕ → Result F ErrorKind → Type 0) (rema
         h.1,
         None,
         h.3,
-        (one.0, one.1, one.2, one.3, caused read write unsaid (Some name) name one.1 said_before h.2 one.4, one.5),
+        (one.0, one.1, one.2, one.3, caused IsUnread refused write unsaid (Some name) name one.1 said_before h.2 one.4, one.5),
         each_unsaid names h.0 rest h.1 new h.2 said _ status h.5,
       )
 
   table_unsaid : (old new said_before said : Option (List ℕ)) (before status : ℕ) →
-      EndsWithTable (SaysOfNamed read write unsaid) old new said_before said before status →
-      EndsWithTable (HasCheckCause read write) old new None None before status
+      EndsWithTable (SaysOfNamed IsUnread write unsaid) old new said_before said before status →
+      EndsWithTable (HasCheckCause IsUnread write) old new None None before status
   table_unsaid old new said_before said before status (inl h) = inl (h.0, h.1, refl, h.3)
   table_unsaid old new said_before said before status (inr (inl h)) = inr (inl (h.0, tt, h.2))
   table_unsaid old new said_before said before status (inr (inr h)) = inr (inr (h.0.0, h.1))
 
   several_unsaid : (names : List (List ℕ)) (known rest old new said_before said : Option (List ℕ)) (status : ℕ) →
-      ChecksSeveral Opens remaining is_explained (SaysOfNamed read write unsaid) names known rest old new said_before said status →
-      ChecksSeveral Opens remaining is_explained (HasCheckCause read write) names known rest old new None None status
+      ChecksSeveral Opens remaining is_explained (SaysOfNamed IsUnread write unsaid) refused names known rest old new said_before said status →
+      ChecksSeveral Opens remaining is_explained (HasCheckCause IsUnread write) refused names known rest old new None None status
   several_unsaid names known rest old new said_before said status (inl h) =
       inl (
         h.0,
@@ -74,19 +74,19 @@ module _ {F : Type 0} (Opens : List ℕ → Result F ErrorKind → Type 0) (rema
   several_unsaid names known rest old new said_before said status (inr h) = inr (None, h.1.0, h.2)
 
   names_unsaid : (names : List (List ℕ)) (known rest old new said_before said : Option (List ℕ)) (status : ℕ) →
-      ChecksNames Opens remaining is_explained (SaysOfNamed read write unsaid) names known rest old new said_before said status →
-      ChecksNames Opens remaining is_explained (HasCheckCause read write) names known rest old new None None status
+      ChecksNames Opens remaining is_explained (SaysOfNamed IsUnread write unsaid) refused names known rest old new said_before said status →
+      ChecksNames Opens remaining is_explained (HasCheckCause IsUnread write) refused names known rest old new None None status
   names_unsaid [] known rest old new said_before said status h =
       several_unsaid [] known rest old new said_before said status h
   names_unsaid (name ∷ []) known rest old new said_before said status h =
-      (h.0, h.1, caused read write unsaid None name h.0 said_before said h.2, h.3)
+      (h.0, h.1, caused IsUnread refused write unsaid None name h.0 said_before said h.2, h.3)
   names_unsaid (name ∷ other ∷ names) known rest old new said_before said status h =
       several_unsaid (name ∷ other ∷ names) known rest old new said_before said status h
 
   pub logs_unsaid : (names : Option (List (List ℕ))) (known rest old new said_before said : Option (List ℕ)) (status : ℕ) →
-      ChecksLogs Opens remaining is_explained (SaysOfNamed read write unsaid) names known rest old new said_before said status →
-      ChecksLogs Opens remaining is_explained (HasCheckCause read write) names known rest old new None None status
+      ChecksLogs Opens remaining is_explained (SaysOfNamed IsUnread write unsaid) refused names known rest old new said_before said status →
+      ChecksLogs Opens remaining is_explained (HasCheckCause IsUnread write) refused names known rest old new None None status
   logs_unsaid None known rest old new said_before said status h =
-      (h.0, h.1, caused read write unsaid None standard_input h.0 said_before said h.2, h.3)
+      (h.0, h.1, caused IsUnread refused write unsaid None standard_input h.0 said_before said h.2, h.3)
   logs_unsaid (Some names) known rest old new said_before said status h =
       names_unsaid names known rest old new said_before said status h

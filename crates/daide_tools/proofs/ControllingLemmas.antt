@@ -9,7 +9,7 @@ use Rattle.daide_status.specs.declared.request.ControlRequest.{ControlRequest}
 use Rattle.daide_status.specs.declared.request.ControlRequest.TheVariants.{Status}
 use Rattle.daide_status.specs.declared.request.Format.{Format}
 use Rattle.daide_tools.specs.Controlling.{AnswersOver, EndsAfter, EndsRequestOr, EndsStatuses, ReachedAt, RunAnswers}
-use Rattle.daide_tools.specs.Controlling.{StatusEnds, StopRuns, request_line, stop_request, longest_answer, title_for}
+use Rattle.daide_tools.specs.Controlling.{StatusEnds, StopRuns, request_line, longest_answer, title_for}
 use Rattle.daide_tools.specs.Endings.{AreSettingsAt}
 
 -- what was read after the request was sent, and was printed after a title, is the answer
@@ -57,7 +57,7 @@ each_ended Opens bytes Reaches contents remaining write format several (name ∷
 pub run_stopped : {F S : Type 0} (Opens : List ℕ → Result F ErrorKind → Type 0) (bytes : F → Option (List ℕ))
     (Reaches : List ℕ → Result S ErrorKind → Type 0) (contents remaining : S → Option (List ℕ)) (order : StopOrder)
     (given : Given) (status : ℕ) → AreSettingsAt Opens bytes order.settings.now given →
-    ((status ≡ 0) × ReachedAt Reaches given.control (EndsAfter contents remaining (stop_request order.is_now)))
+    ((status ≡ 0) × ReachedAt Reaches given.control (EndsAfter contents remaining order.request))
     ⊎ (status ≡ 1) → StopRuns Opens bytes Reaches contents remaining order status
 run_stopped Opens bytes Reaches contents remaining order given status at (inl (is, reached)) = inl (is, (given, at, reached))
 run_stopped Opens bytes Reaches contents remaining order given status at (inr is) = inr is

@@ -1,5 +1,5 @@
 -- The end of `check`: the reports of logs, the table after several, and what is said of their faults. (own)
-use Rattle.std.specs.Prelude.{◌≡◌, ◌⊎◌, ⊤, ℕ, ◌==◌, ◌&&◌, ◌||◌, max, Bool, true, false, if◌then◌else◌}
+use Rattle.std.specs.Prelude.{◌≡◌, ◌≢◌, ◌⊎◌, ⊤, ℕ, ◌==◌, ◌&&◌, ◌||◌, max, Bool, true, false, if◌then◌else◌}
 use Rattle.std.specs.Prelude.{List, [], ◌∷◌, ◌++◌, map, codes, Option, Some, None, Result, Ok, Err, IfErr}
 use Rattle.std.specs.Char.{is_ascii_control}
 use Rattle.std.specs.Fmt.{decimal}
@@ -87,39 +87,46 @@ abbrev pub SaysFault : Type 0 → Option (List ℕ) → LogFault → Option (Lis
 SaysFault unsaid name fault old new = (said : Option (List ℕ))
     × Appends old said (error_line (named_fault name fault)) × SaysWhy unsaid fault said new
 
--- A failed read and a failed write happened. Of refused memory no clause says that.
-abbrev pub IsCheckCause : Type 0 → Type 0 → LogFault → Type 0
-IsCheckCause read write (BadLine n) = ⊤
-IsCheckCause read write (LineTooLong n) = ⊤
-IsCheckCause read write TooManyLines = ⊤
-IsCheckCause read write Read = read
-IsCheckCause read write Write = write
-IsCheckCause read write Memory = ⊤
+-- a failed read, refused memory and a failed write happened
+abbrev pub IsCheckCause : Type 0 → Type 0 → Type 0 → LogFault → Type 0
+IsCheckCause read refused write (BadLine n) = ⊤
+IsCheckCause read refused write (LineTooLong n) = ⊤
+IsCheckCause read refused write TooManyLines = ⊤
+IsCheckCause read refused write Read = read
+IsCheckCause read refused write Write = write
+IsCheckCause read refused write Memory = refused
 
 -- what is said of a log by its result, on standard error before and after: nothing, or its fault, which has its cause
-abbrev pub SaysResult : Type 0 → Type 0 → Type 0 → Option (List ℕ) → Result ℕ LogFault → Option (List ℕ) →
+abbrev pub SaysResult : Type 0 → Type 0 → Type 0 → Type 0 → Option (List ℕ) → Result ℕ LogFault → Option (List ℕ) →
     Option (List ℕ) → Type 0
-SaysResult read write unsaid label (Ok status) old new = new ≡ old
-SaysResult read write unsaid label (Err fault) old new = IsCheckCause read write fault × SaysFault unsaid label fault old new
+SaysResult read refused write unsaid label (Ok status) old new = new ≡ old
+SaysResult read refused write unsaid label (Err fault) old new =
+    IsCheckCause read refused write fault × SaysFault unsaid label fault old new
 
--- What is said of a log of some name, with a label before its fault. Of a file no clause says that a read failed.
+-- The input of this name could not be read: a read of standard input failed; or the file could not be opened, or a read
+-- of a file failed.
+abbrev pub CannotRead : {F : Type 0} → (List ℕ → Result F ErrorKind → Type 0) → Type 0 → Type 0 → List ℕ → Type 0
+CannotRead Opens input file name = (name ≡ standard_input → input)
+    × (name ≢ standard_input → ((cause : ErrorKind) × Opens name (Err cause)) ⊎ file)
+
+-- What is said of a log of some name, with a label before its fault. The first is that memory was refused.
 abbrev pub LogSaying : Type 1
-LogSaying = Option (List ℕ) → List ℕ → Result ℕ LogFault → Option (List ℕ) → Option (List ℕ) → Type 0
+LogSaying = Type 0 → Option (List ℕ) → List ℕ → Result ℕ LogFault → Option (List ℕ) → Option (List ℕ) → Type 0
 
-abbrev pub SaysOfNamed : Type 0 → Type 0 → Type 0 → LogSaying
-SaysOfNamed read write unsaid label name result old new =
-    SaysResult (name ≡ standard_input → read) write unsaid label result old new
+abbrev pub SaysOfNamed : (List ℕ → Type 0) → Type 0 → Type 0 → LogSaying
+SaysOfNamed IsUnread write unsaid refused label name result old new =
+    SaysResult (IsUnread name) refused write unsaid label result old new
 
 -- of standard error nothing is said, but the fault has its cause
-abbrev pub HasCheckCause : Type 0 → Type 0 → LogSaying
-HasCheckCause read write label name result old new =
-    IfErr result (IsCheckCause (name ≡ standard_input → read) write)
+abbrev pub HasCheckCause : (List ℕ → Type 0) → Type 0 → LogSaying
+HasCheckCause IsUnread write refused label name result old new =
+    IfErr result (IsCheckCause (IsUnread name) refused write)
 
 -- the report of a log alone, and what is said of its fault
-abbrev pub ChecksRead : Type 0 → Type 0 → Type 0 → Bool → Option (List ℕ) → Option (List ℕ) → Option (List ℕ) →
+abbrev pub ChecksRead : Type 0 → Type 0 → Type 0 → Type 0 → Bool → Option (List ℕ) → Option (List ℕ) → Option (List ℕ) →
     Option (List ℕ) → Option (List ℕ) → Option (List ℕ) → ℕ → Type 0
-ChecksRead read write unsaid is_explained log rest old new said_before said status = (result : Result ℕ LogFault)
-    × ReportsLog is_explained log rest old new result × SaysResult read write unsaid None result said_before said
+ChecksRead read refused write unsaid is_explained log rest old new said_before said status = (result : Result ℕ LogFault)
+    × ReportsLog is_explained log rest old new result × SaysResult read refused write unsaid None result said_before said
     × (status ≡ log_status result)
 
 -- ---- several logs
@@ -144,27 +151,28 @@ module _ {F : Type 0} (Opens : List ℕ → Result F ErrorKind → Type 0) (rema
   ReportsNamed name known rest old new result = ReadsNamed Opens remaining name
       (λ log left. ReportsLog is_explained log left old new result) ((new ≡ old) × (result ≡ Err Read)) known rest
 
--- the table after the reports, or no memory for it, or a failed write; by the status of the reports
+-- The table after the reports, or no memory for it, or a failed write; by the status of the reports. Of the memory of
+-- the table no clause says that it was refused.
 abbrev pub EndsWithTable : LogSaying → Option (List ℕ) → Option (List ℕ) → Option (List ℕ) → Option (List ℕ) → ℕ → ℕ → Type 0
 EndsWithTable Says old new said_before said before status =
     ((table : List ℕ) × Appends old new table × (said ≡ said_before) × (status ≡ before))
-    ⊎ ((new ≡ old) × Says None standard_input (Err Memory) said_before said × (status ≡ 1))
-    ⊎ (Says None standard_input (Err Write) said_before said × (status ≡ 1))
+    ⊎ ((new ≡ old) × Says ⊤ None standard_input (Err Memory) said_before said × (status ≡ 1))
+    ⊎ (Says ⊤ None standard_input (Err Write) said_before said × (status ≡ 1))
 
 -- What is said of each. The bytes are those of standard input, of the output and of standard error, before and after.
 module _ {F : Type 0} (Opens : List ℕ → Result F ErrorKind → Type 0) (remaining : F → Option (List ℕ))
-    (is_explained : Bool) (Says : LogSaying) where
+    (is_explained : Bool) (Says : LogSaying) (refused : Type 0) where
   -- one log alone: standard input, or that of a name
   abbrev pub ChecksInput : Option (List ℕ) → Option (List ℕ) → Option (List ℕ) → Option (List ℕ) → Option (List ℕ) →
       Option (List ℕ) → ℕ → Type 0
   ChecksInput known rest old new said_before said status = (result : Result ℕ LogFault)
-      × ReportsLog is_explained known rest old new result × Says None standard_input result said_before said
+      × ReportsLog is_explained known rest old new result × Says refused None standard_input result said_before said
       × (status ≡ log_status result)
 
   abbrev pub ChecksNamed : List ℕ → Option (List ℕ) → Option (List ℕ) → Option (List ℕ) → Option (List ℕ) →
       Option (List ℕ) → Option (List ℕ) → ℕ → Type 0
   ChecksNamed name known rest old new said_before said status = (result : Result ℕ LogFault)
-      × ReportsNamed Opens remaining is_explained name known rest old new result × Says None name result said_before said
+      × ReportsNamed Opens remaining is_explained name known rest old new result × Says refused None name result said_before said
       × (status ≡ log_status result)
 
   -- one of several: its name, its report, and its fault after its name
@@ -172,8 +180,8 @@ module _ {F : Type 0} (Opens : List ℕ → Result F ErrorKind → Type 0) (rema
       Option (List ℕ) → Option (List ℕ) → ℕ → Type 0
   ChecksOne name known rest old new said_before said status =
       (named : Option (List ℕ)) × (result : Result ℕ LogFault) × Appends old named (name_line name)
-      × ReportsNamed Opens remaining is_explained name known rest named new result × Says (Some name) name result said_before said
-      × (status ≡ log_status result)
+      × ReportsNamed Opens remaining is_explained name known rest named new result
+      × Says refused (Some name) name result said_before said × (status ≡ log_status result)
 
   -- the same, or a write failed, and then nothing is said of it
   abbrev pub EndsOne : Type 0 → List ℕ → Option (List ℕ) → Option (List ℕ) → Option (List ℕ) → Option (List ℕ) →
@@ -199,7 +207,7 @@ module _ {F : Type 0} (Opens : List ℕ → Result F ErrorKind → Type 0) (rema
       ((reported : Option (List ℕ)) × (said_then : Option (List ℕ)) × (all : ℕ)
       × ChecksEach names known rest old reported said_before said_then 0 all
       × EndsWithTable Says reported new said_then said all status)
-      ⊎ ((said_then : Option (List ℕ)) × Says None standard_input (Err Write) said_then said × (status ≡ 1))
+      ⊎ ((said_then : Option (List ℕ)) × Says refused None standard_input (Err Write) said_then said × (status ≡ 1))
 
   -- the logs of an order: without names standard input, the one that is named, or several
   abbrev pub ChecksNames : List (List ℕ) → Option (List ℕ) → Option (List ℕ) → Option (List ℕ) → Option (List ℕ) →

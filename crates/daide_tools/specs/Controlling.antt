@@ -1,12 +1,12 @@
 -- What the commands `status` and `stop` send to a run. (own)
-use Rattle.std.specs.Prelude.{◌≡◌, ◌≢◌, ◌≤◌, ◌⊎◌, ℕ, ◌++◌, max, nat_lt, Bool, true, false, List, [], ◌∷◌, length, map, Option, Some, None, option_map, unwrap_or, IfSome, Result, Ok}
+use Rattle.std.specs.Prelude.{◌≡◌, ◌≢◌, ◌≤◌, ◌⊎◌, ℕ, ◌++◌, max, nat_lt, codes, Bool, true, false, List, [], ◌∷◌, length, map, Option, Some, None, option_map, unwrap_or, IfSome, Result, Ok}
 use Rattle.std.specs.Io.KnownBytes.{Appends}
 use Rattle.std.specs.declared.io.ErrorKind.{ErrorKind}
 use Rattle.daide_command_line.specs.declared.arguments.StatusOrder.{StatusOrder}
 use Rattle.daide_command_line.specs.declared.arguments.StopOrder.{StopOrder}
 use Rattle.daide_settings.specs.Settings.{Given}
 use Rattle.daide_status.specs.declared.request.ControlRequest.{ControlRequest}
-use Rattle.daide_status.specs.declared.request.ControlRequest.TheVariants.{Status, Stop, StopNow}
+use Rattle.daide_status.specs.declared.request.ControlRequest.TheVariants.{Status}
 use Rattle.daide_status.specs.declared.request.Format.{Format}
 use Rattle.daide_status.specs.declared.request.Format.TheVariants.{Table, Json, Prometheus}
 use Rattle.daide_status.specs.Requests.{request_text}
@@ -14,16 +14,15 @@ use Rattle.daide_tools.specs.Checking.{name_line}
 use Rattle.daide_tools.specs.Endings.{AreSettingsAt}
 use Rattle.daide_tools.specs.declared.controlling.RequestFault.{RequestFault}
 use Rattle.daide_tools.specs.declared.controlling.RequestFault.TheVariants.{Unreached, Unaccepted, Unsent, Unread, Silent}
-use Rattle.daide_tools.specs.declared.controlling.RequestFault.TheVariants.{Unknown, TooLong, StillRunning, Write}
+use Rattle.daide_tools.specs.declared.controlling.RequestFault.TheVariants.{Unknown, TooLong, StillRunning, NoSession, Unawaited, NotStopped, Write}
 
 -- a request as it is sent: its text and a line feed
 abbrev pub request_line : ControlRequest → List ℕ
 request_line request = request_text request ++ 10 ∷ []
 
--- the request of `stop`, without and with `--now`
-abbrev pub stop_request : Bool → ControlRequest
-stop_request false = Stop
-stop_request true = StopNow
+-- the line by which a run accepts a stop; the stream ends when what was stopped is over
+abbrev pub stopping_line : List ℕ
+stopping_line = codes "stopping\n"
 
 -- the most bytes of an answer that is printed
 abbrev pub longest_answer : ℕ
@@ -66,6 +65,9 @@ IsUnanswered write old new Silent = new ≡ old
 IsUnanswered write old new Unknown = new ≡ old
 IsUnanswered write old new TooLong = new ≡ old
 IsUnanswered write old new StillRunning = new ≡ old
+IsUnanswered write old new (NoSession number) = new ≡ old
+IsUnanswered write old new Unawaited = new ≡ old
+IsUnanswered write old new (NotStopped number) = new ≡ old
 IsUnanswered write old new Write = write
 
 -- The status of each run, in order, by what is so of the run of a name if its answer is printed. `before` and `status` are
@@ -86,10 +88,10 @@ module _ {S : Type 0} (contents remaining : S → Option (List ℕ)) (request : 
     pub printed : IsAnswerAfter title old new
     pub whole : IfSome (remaining sent) (λ all. printed.answer ≡ all)
 
-  -- The request was sent over the stream, and then came nothing but its end.
+  -- The request was sent over the stream, and then came the line that accepts a stop, and the end.
   abbrev pub EndsAfter : Type 0
   EndsAfter = (sent : S) × Appends (contents stream) (contents sent) (request_line request)
-      × IfSome (remaining sent) (λ rest. rest ≡ [])
+      × IfSome (remaining sent) (λ rest. rest ≡ stopping_line)
 
 -- A run was reached at this control path, and this is so of the stream to it. `Reaches` relates a path to what was reached
 -- at it.
@@ -125,5 +127,5 @@ module _ {F S : Type 0} (Opens : List ℕ → Result F ErrorKind → Type 0) (by
   -- The request of an order to stop was sent to the run with its settings, whose stream then ended; or the status is 1.
   abbrev pub StopRuns : StopOrder → ℕ → Type 0
   StopRuns order status =
-      ((status ≡ 0) × ReachesRun order.settings.now (EndsAfter contents remaining (stop_request order.is_now)))
+      ((status ≡ 0) × ReachesRun order.settings.now (EndsAfter contents remaining order.request))
       ⊎ (status ≡ 1)

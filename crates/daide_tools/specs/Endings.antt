@@ -31,7 +31,7 @@ use Rattle.daide_settings.specs.Settings.{Given, judged_settings}
 use Rattle.daide_tools.specs.declared.judging.SettingsFault.{SettingsFault}
 use Rattle.daide_tools.specs.declared.judging.SettingsFault.TheVariants as settings_faults
 use Rattle.daide_tools.specs.declared.trying.Trials.{Trials}
-use Rattle.daide_tools.specs.Checking.{ChecksLogs, HasCheckCause}
+use Rattle.daide_tools.specs.Checking.{CannotRead, ChecksLogs, HasCheckCause}
 use Rattle.daide_tools.specs.Needs.{needs_text}
 use Rattle.daide_tools.specs.Opened.{IsTextAt, ReadsNamed}
 use Rattle.daide_tools.specs.Trials.{passed_text, trials_status}
@@ -168,11 +168,12 @@ module _ {F : Type 0} (Opens : List ℕ → Result F ErrorKind → Type 0) (rema
       (record { words = words; side = order.side; level = order.level; explained = order.is_explained })
       (given_by (option_map (λ typed. map (λ word. word.now) typed.now) order.typed) known) old new status)
 
-  -- the logs of the order are reported, and a fault has its cause, whatever is said on standard error
-  abbrev pub CheckRuns : Type 0 → Type 0 → CheckOrder → Option (List ℕ) → Option (List ℕ) → Option (List ℕ) →
-      Option (List ℕ) → ℕ → Type 0
-  CheckRuns read write order known rest old new status =
-      ChecksLogs Opens remaining order.is_explained (HasCheckCause read write)
+  -- The logs of the order are reported, and a fault has its cause, whatever is said on standard error. `file` says that
+  -- a read of a file failed.
+  abbrev pub CheckRuns : Type 0 → Type 0 → Type 0 → Type 0 → CheckOrder → Option (List ℕ) → Option (List ℕ) →
+      Option (List ℕ) → Option (List ℕ) → ℕ → Type 0
+  CheckRuns read file refused write order known rest old new status =
+      ChecksLogs Opens remaining order.is_explained (HasCheckCause (CannotRead Opens read file) write) refused
       (option_map (λ files. map (λ file. file.now) files.now) order.files) known rest old new None None status
 
   -- as for `show`

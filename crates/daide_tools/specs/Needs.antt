@@ -24,10 +24,10 @@ buffers_line =
 
 -- ---- descriptors
 
--- those of a control socket: its listener and its four connections
+-- those of a control socket: its listener and its eight connections
 abbrev pub control_descriptors : Bool → ℕ
 control_descriptors false = 0
-control_descriptors true = 5
+control_descriptors true = 9
 
 -- seven of its own, two a session, one for each closing socket, and those of the control socket
 abbrev pub descriptors : ℕ → Bool → ℕ
@@ -39,7 +39,7 @@ descriptors_line count = codes "# descriptors: at most " ++ (decimal count ++ (c
 
 abbrev pub control_line : Bool → List ℕ
 control_line false = []
-control_line true = codes "#   " ++ (decimal 5 ++ codes " of these are for the control socket;\n")
+control_line true = codes "#   " ++ (decimal 9 ++ codes " of these are for the control socket;\n")
 
 abbrev pub descriptors_text : ℕ → Bool → List ℕ
 descriptors_text sessions has_control = descriptors_line (descriptors sessions has_control)

@@ -1,19 +1,19 @@
 //! `status` and `stop`: what an operator requests of a run, over its control socket.
 //!
-//! A request is one line, and its answer is what comes until the end of the stream. The contracts say of which run: that
-//! which was reached at the control path of the settings of the order's file (`ReachesRun`). The operating system decides
-//! who listens there.
+//! A request is one line. Its answer is what comes until the end of the stream; that of a stop is a line at once, and the
+//! end of the stream when what was stopped is over. The contracts say of which run: that which was reached at the control
+//! path of the settings of the order's file (`ReachesRun`). The operating system decides who listens there.
 
-ghost use Rattle.std.specs.Prelude.{◌≡◌, ◌≢◌, ◌≤◌, ◌⊎◌, ◌++◌, [], length, map, option_map, Some, Ok, IfOk, IfErr, IfSome, OnOk, OnErr};
-ghost use Rattle.std.specs.Io.KnownBytes.{Appends};
+ghost use Rattle.std.specs.Prelude.{◌≡◌, ◌≢◌, ◌≤◌, ◌⊎◌, ◌++◌, [], length, map, option_map, option_to_list, Some, Ok, IfOk, IfErr, IfSome, OnOk, OnErr};
+ghost use Rattle.std.specs.Io.KnownBytes.{Appends, Consumes};
 ghost use Rattle.daide_causes.specs.Causes.{HasFailed};
-ghost use Rattle.daide_tools.specs.Controlling.{AnswersOver, EndsAfter, EndsRequestOr, IsUnanswered, ReachedAt, RunAnswers, StatusEnds, StatusRuns, StopRuns, longest_answer, request_line, stop_request, title_for, title_of};
+ghost use Rattle.daide_tools.specs.Controlling.{AnswersOver, EndsAfter, EndsRequestOr, IsUnanswered, ReachedAt, RunAnswers, StatusEnds, StatusRuns, StopRuns, longest_answer, request_line, stopping_line, title_for, title_of};
 
 use crate::faults::{CLEAN, FAULT, print_fault};
-use crate::opening::{FileOpener, RunReacher};
+use crate::opening::{ANSWER_SECONDS, FileOpener, Limit, RunReacher};
 use crate::settings_file::{SettingsFileFault, settings_at};
 use crate::several::write_name;
-use daide_causes::Sink;
+use daide_causes::{Growth, Sink, Source};
 use daide_command_line::arguments::{StatusOrder, StopOrder};
 use daide_settings::ControlPath;
 use daide_status::{ControlRequest, Format};
@@ -25,11 +25,17 @@ use std::{fmt, io};
 /// The most bytes of an answer.
 const MOST_BYTES: u64 = 4_194_304;
 
-/// The longest silence of a run that is to send its status, in seconds.
-const ANSWER_SECONDS: u64 = 5;
-
 /// The answer of a run to a line that is no request of its version.
 const UNKNOWN: &[u8] = b"unknown request\n";
+
+/// The most bytes of the line that answers a stop.
+const LONGEST_LINE: usize = 64;
+
+/// The answer of a run that carries out a stop, at whose end the stream ends.
+const STOPPING: &[u8] = b"stopping\n";
+
+/// The answer of a run to a stop at whose end the stream does not end, since others wait for one.
+const MANY_WAIT: &[u8] = b"too many wait\n";
 
 /// Why a request was not carried out.
 #[derive(Clone, Copy)]
@@ -48,8 +54,14 @@ enum RequestFault {
     Unknown,
     /// The answer is too long.
     TooLong,
-    /// The run goes on after the timeout.
+    /// The run, or the session, goes on after the timeout.
     StillRunning,
+    /// The run has no session of this number.
+    NoSession(u32),
+    /// The run stops, but does not say when it is over.
+    Unawaited,
+    /// The run does not stop this session, since it could not say when it is over.
+    NotStopped(u32),
     /// The output failed.
     Write,
 }
@@ -68,6 +80,16 @@ impl fmt::Display for RequestFault {
             RequestFault::Unknown => f.write_str("the run does not know the request"),
             RequestFault::TooLong => f.write_str("answer is too long"),
             RequestFault::StillRunning => f.write_str("still running"),
+            RequestFault::NoSession(number) => write!(f, "the run has no session {number}"),
+            RequestFault::Unawaited => f.write_str(
+                "too many wait for the end: the run stops, but its end is not awaited",
+            ),
+            RequestFault::NotStopped(number) => {
+                write!(
+                    f,
+                    "too many wait for an end: session {number} is not stopped"
+                )
+            }
             RequestFault::Write => f.write_str("output could not be written"),
         }
     }
@@ -82,12 +104,12 @@ fn is_timeout(kind: ErrorKind) -> bool {
 fn reach<S: Read + Write + Drop, R: RunReacher<S>>(
     rt: &R,
     path: &ControlPath,
-    timeout: Option<Duration>,
+    time: Duration,
 ) -> Result<S, RequestFault>
     ensures fault { IfErr result (λ fault. fault ≢ RequestFault.Write) }
     ensures reached { IfOk result (λ stream. R.Reaches path.now (Ok stream)) }
 {
-    match rt.reach_run(path.as_str(), timeout) {
+    match rt.reach_run(path.as_str(), time) {
         Ok(stream) => Ok(stream),
         Err(kind) if is_timeout(kind) => Err(RequestFault::Unaccepted),
         Err(kind) => Err(RequestFault::Unreached(kind)),
@@ -95,15 +117,19 @@ fn reach<S: Read + Write + Drop, R: RunReacher<S>>(
 }
 
 /// Sends a request.
-fn send<S: Write>(request: ControlRequest, stream: &mut S) -> Result<(), RequestFault>
+fn send<S: Write>(
+    alloc: Global,
+    request: ControlRequest,
+    stream: &mut S,
+) -> Result<(), RequestFault>
     ensures fault { IfErr result (λ fault. fault ≢ RequestFault.Write) }
     ensures sent { OnOk result (Appends (S.contents stream.old) (S.contents stream.new) (request_line request)) }
 {
-    let mut line = [0u8; 64];
-    let text = request.text().as_bytes();
-    line[..text.len()].copy_from_slice(text);
-    line[text.len()] = b'\n';
-    match stream.write_all(&line[..=text.len()]) {
+    let mut line = Vec::new(alloc);
+    if let Err(_) = Global::append_text(&mut line, format_args_nl!("{request}")) {
+        return Err(RequestFault::Unsent(ErrorKind::OutOfMemory));
+    }
+    match stream.write_all(line.as_slice()) {
         Ok(()) => Ok(()),
         Err(error) => Err(RequestFault::Unsent(error.kind())),
     }
@@ -174,7 +200,7 @@ fn status_over<S: Read + Write, O: Sink>(
         (title_of (option_map (λ name. name.now) title.entry)) (O.contents output.old) (O.contents output.new)) }
     ensures refused { IfErr result (IsUnanswered (HasFailed O.Fails) (O.contents output.old) (O.contents output.new)) }
 {
-    send(request, stream)?;
+    send(alloc, request, stream)?;
     let answer = answer_of(alloc, stream)?;
     print_answer(title, answer.as_slice(), output)
 }
@@ -192,8 +218,70 @@ fn print_status<S: Read + Write + Drop, R: AllocGlobal + RunReacher<S>, O: Sink>
         (title_of (option_map (λ name. name.now) title.entry)) (O.contents output.old) (O.contents output.new))) }
     ensures refused { IfErr result (IsUnanswered (HasFailed O.Fails) (O.contents output.old) (O.contents output.new)) }
 {
-    let mut stream = reach(rt, path, Some(Duration::from_secs(ANSWER_SECONDS)))?;
+    let mut stream = reach(rt, path, Duration::from_secs(ANSWER_SECONDS))?;
     status_over(rt.alloc(), title, request, &mut stream, output)
+}
+
+/// Returns the fault of a read.
+fn unread(kind: ErrorKind) -> RequestFault {
+    if is_timeout(kind) {
+        RequestFault::Silent
+    } else {
+        RequestFault::Unread(kind)
+    }
+}
+
+/// Reads the next byte; `None` at the end of the stream.
+fn next_byte<S: Read>(stream: &mut S) -> Result<Option<u8>, RequestFault>
+    ensures { IfOk result (λ next.
+        Consumes (S.remaining stream.old) (S.remaining stream.new) (option_to_list next)) }
+{
+    let mut buffer = [0u8; 1];
+    match stream.read(&mut buffer) {
+        Ok(0) => Ok(None),
+        Ok(_) => Ok(Some(buffer[0])),
+        Err(error) => Err(unread(error.kind())),
+    }
+}
+
+/// Reads a line, with its line feed. Without a line feed it has the bytes before the end of the stream, or the first
+/// `LONGEST_LINE`.
+fn read_line<S: Read>(alloc: Global, stream: &mut S) -> Result<Vec<u8>, RequestFault>
+    ensures { IfOk result (λ line. Consumes (S.remaining stream.old) (S.remaining stream.new) line.items) }
+{
+    let mut line = Vec::new(alloc);
+    for _ in 0..LONGEST_LINE {
+        let Some(byte) = next_byte(stream)? else {
+            return Ok(line);
+        };
+        if line.push(byte).is_err() {
+            return Err(RequestFault::Unread(ErrorKind::OutOfMemory));
+        }
+        if byte == b'\n' {
+            return Ok(line);
+        }
+    }
+    Ok(line)
+}
+
+/// Returns the fault of a stop by the line that answers it, unless it is carried out and its end awaited.
+fn judge_line(request: ControlRequest, line: &[u8]) -> Result<(), RequestFault>
+    ensures { OnOk result (line.now ≡ stopping_line) }
+{
+    if line == STOPPING {
+        return Ok(());
+    }
+    Err(match request {
+        ControlRequest::StopSession(number) if line.starts_with(b"no session ") => {
+            RequestFault::NoSession(number)
+        }
+        ControlRequest::StopSession(number) if line == MANY_WAIT => {
+            RequestFault::NotStopped(number)
+        }
+        _ if line == MANY_WAIT => RequestFault::Unawaited,
+        _ if line.is_empty() => RequestFault::Silent,
+        _ => RequestFault::Unknown,
+    })
 }
 
 /// Waits for the end of a stream on which nothing comes before.
@@ -209,39 +297,35 @@ fn wait_for_end<S: Read>(stream: &mut S) -> Result<(), RequestFault>
     }
 }
 
-/// Requests a stop over a stream, and waits for the end of the stream, which comes when the run is over.
-fn stop_over<S: Read + Write>(is_now: bool, stream: &mut S) -> Result<(), RequestFault>
-    ensures { OnOk result (EndsAfter S.contents S.remaining (stop_request is_now) stream.old) }
+/// Requests a stop over a stream, and waits for the end of the stream, which comes when what was stopped is over.
+fn stop_over<S: Read + Write, R: AllocGlobal + RunReacher<S>>(
+    rt: &R,
+    request: ControlRequest,
+    limit: &Limit,
+    stream: &mut S,
+) -> Result<(), RequestFault>
+    ensures { OnOk result (EndsAfter S.contents S.remaining request stream.old) }
 {
-    send(stop_request(is_now), stream)?;
-    wait_for_end(stream)
+    send(rt.alloc(), request, stream)?;
+    let line = read_line(rt.alloc(), stream)?;
+    judge_line(request, line.as_slice())?;
+    match rt.set_wait(stream, limit.left(rt)) {
+        Ok(()) => wait_for_end(stream),
+        Err(kind) => Err(RequestFault::Unread(kind)),
+    }
 }
 
-/// Requests a stop of the run at a path, and waits until the run is over (`stop_over`).
-fn stop_run<S: Read + Write + Drop, R: RunReacher<S>>(
+/// Requests a stop of the run at a path, or of a session, and waits until it is over (`stop_over`).
+fn stop_run<S: Read + Write + Drop, R: AllocGlobal + RunReacher<S>>(
     rt: &R,
     path: &ControlPath,
     order: StopOrder<'_>,
 ) -> Result<(), RequestFault>
-    ensures { OnOk result (ReachedAt R.Reaches (Some path.now)
-        (EndsAfter S.contents S.remaining (stop_request order.entry.is_now))) }
+    ensures { OnOk result (ReachedAt R.Reaches (Some path.now) (EndsAfter S.contents S.remaining order.entry.request)) }
 {
-    let timeout = order
-        .timeout
-        .map(|seconds| Duration::from_secs(seconds as u64));
-    let mut stream = reach(rt, path, timeout)?;
-    stop_over(order.is_now, &mut stream)
-}
-
-/// Returns the request of an order to stop.
-fn stop_request(is_now: bool) -> ControlRequest
-    ensures { result ≡ stop_request is_now }
-{
-    if is_now {
-        ControlRequest::StopNow
-    } else {
-        ControlRequest::Stop
-    }
+    let limit = Limit::begin(rt, order.timeout);
+    let mut stream = reach(rt, path, limit.to_answer())?;
+    stop_over(rt, order.request, &limit, &mut stream)
 }
 
 /// Why an order to a run was not carried out.
@@ -337,16 +421,16 @@ fn status_of<S: Read + Write + Drop, R: AllocGlobal + RunReacher<S>, O: Sink, E:
 }
 
 /// Does the same for the run with the settings of this name.
-fn status_at<S: Read + Write + Drop, R: AllocGlobal + FileOpener + RunReacher<S>, O: Sink, E: Sink>(
-    rt: &R,
-    name: &str,
-    form: StatusForm,
-    output: &mut O,
-    errors: &mut E,
-) -> io::Result<Option<u8>>
+fn status_at<
+    S: Read + Write + Drop,
+    F: Source + Drop,
+    R: AllocGlobal + FileOpener<F> + RunReacher<S>,
+    O: Sink,
+    E: Sink,
+>(rt: &R, name: &str, form: StatusForm, output: &mut O, errors: &mut E) -> io::Result<Option<u8>>
     ensures bounded { IfOk result (λ one. IfSome one (λ status. status ≤ FAULT)) }
     ensures ended { IfOk result (EndsRequestOr (HasFailed O.Fails)
-        (RunAnswers R.Opens R.File.remaining R.Reaches S.contents S.remaining form.is_several form.format
+        (RunAnswers R.Opens F.remaining R.Reaches S.contents S.remaining form.is_several form.format
         name.now (O.contents output.old) (O.contents output.new)) (O.contents output.old) (O.contents output.new)) }
 {
     match settings_at(rt, name) {
@@ -361,12 +445,13 @@ fn status_at<S: Read + Write + Drop, R: AllocGlobal + FileOpener + RunReacher<S>
 /// Prints the status of the runs with the settings of these names, one after the other. Returns the status of the program.
 fn status_of_each<
     S: Read + Write + Drop,
-    R: AllocGlobal + FileOpener + RunReacher<S>,
+    F: Source + Drop,
+    R: AllocGlobal + FileOpener<F> + RunReacher<S>,
     O: Sink,
     E: Sink,
 >(rt: &R, names: &[&str], format: Format, output: &mut O, errors: &mut E) -> io::Result<u8>
     ensures bounded { IfOk result (λ status. status ≤ FAULT) }
-    ensures ended { IfOk result (StatusEnds R.Opens R.File.remaining R.Reaches S.contents S.remaining
+    ensures ended { IfOk result (StatusEnds R.Opens F.remaining R.Reaches S.contents S.remaining
         (HasFailed O.Fails) format (map (λ name. name.now) names.now) (O.contents output.old) (O.contents output.new)) }
 {
     if names.is_empty() {
@@ -395,12 +480,13 @@ fn status_of_each<
 /// For a run without an answer nothing is printed, and the status is 1. After a failed write nothing more is said.
 pub fn run_status<
     S: Read + Write + Drop,
-    R: AllocGlobal + FileOpener + RunReacher<S>,
+    F: Source + Drop,
+    R: AllocGlobal + FileOpener<F> + RunReacher<S>,
     O: Sink,
     E: Sink,
 >(rt: &R, order: StatusOrder<'_, '_>, output: &mut O, errors: &mut E) -> io::Result<u8>
     ensures bounded { IfOk result (λ status. status ≤ FAULT) }
-    ensures ended { IfOk result (StatusRuns R.Opens R.File.remaining R.Reaches S.contents S.remaining
+    ensures ended { IfOk result (StatusRuns R.Opens F.remaining R.Reaches S.contents S.remaining
         (HasFailed O.Fails) order.entry (O.contents output.old) (O.contents output.new)) }
 {
     match order.settings {
@@ -409,8 +495,9 @@ pub fn run_status<
     }
 }
 
-/// Stops the run with this control socket, and waits until it is over. Returns the status of the program.
-fn stop_of<S: Read + Write + Drop, R: RunReacher<S>, E: Sink>(
+/// Stops the run with this control socket, or a session of it, and waits until it is over. Returns the status of the
+/// program.
+fn stop_of<S: Read + Write + Drop, R: AllocGlobal + RunReacher<S>, E: Sink>(
     rt: &R,
     control: &Option<ControlPath>,
     order: StopOrder<'_>,
@@ -418,7 +505,7 @@ fn stop_of<S: Read + Write + Drop, R: RunReacher<S>, E: Sink>(
 ) -> io::Result<u8>
     ensures bounded { IfOk result (λ status. status ≤ FAULT) }
     ensures stopped { IfOk result (λ status. ((status ≡ CLEAN) × ReachedAt R.Reaches control.now
-        (EndsAfter S.contents S.remaining (stop_request order.entry.is_now))) ⊎ (status ≡ FAULT)) }
+        (EndsAfter S.contents S.remaining order.entry.request)) ⊎ (status ≡ FAULT)) }
 {
     let Some(path) = control else {
         return end_refused(None, ControlFault::NoControl, errors);
@@ -429,20 +516,22 @@ fn stop_of<S: Read + Write + Drop, R: RunReacher<S>, E: Sink>(
     }
 }
 
-/// Stops the run with the settings of a file, and waits until it is over. Returns the status of the program. Nothing is
-/// written to the output.
+/// Stops the run with the settings of a file, or a session of it, and waits until it is over. Returns the status of the
+/// program. Nothing is written to the output.
 ///
 /// `stopped`: the status is 0 only if the run was reached at the control path of the settings of the order's file, the
-/// request of the order was sent over that stream, and then came its end (`StopRuns`). Otherwise it is 1.
+/// request of the order was sent over that stream, and then came the line `stopping` and the end (`StopRuns`). Otherwise it
+/// is 1.
 ///
 /// Not said: why a stop was not carried out.
-pub fn run_stop<S: Read + Write + Drop, R: AllocGlobal + FileOpener + RunReacher<S>, E: Sink>(
-    rt: &R,
-    order: StopOrder<'_>,
-    errors: &mut E,
-) -> io::Result<u8>
+pub fn run_stop<
+    S: Read + Write + Drop,
+    F: Source + Drop,
+    R: AllocGlobal + FileOpener<F> + RunReacher<S>,
+    E: Sink,
+>(rt: &R, order: StopOrder<'_>, errors: &mut E) -> io::Result<u8>
     ensures bounded { IfOk result (λ status. status ≤ FAULT) }
-    ensures stopped { IfOk result (StopRuns R.Opens R.File.remaining R.Reaches S.contents S.remaining
+    ensures stopped { IfOk result (StopRuns R.Opens F.remaining R.Reaches S.contents S.remaining
         order.entry) }
 {
     match settings_at(rt, order.settings) {

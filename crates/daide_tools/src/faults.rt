@@ -7,7 +7,6 @@ ghost use Rattle.daide_tools.specs.Checking.{SaysFault, SaysWhy, error_line, fau
 
 use daide_causes::{Growth, Sink};
 use daide_log::{LineReason, LogFault};
-use std::alloc::Global;
 use std::fmt::Display;
 use std::{fmt, io};
 
@@ -105,16 +104,18 @@ impl RefusedLog {
 }
 
 /// Reports why a line is not a log line, after the name of its log, if there are several. A failure has no effect.
-fn print_reason<E: Sink>(alloc: Global, name: Option<&str>, reason: LineReason, errors: &mut E)
+fn print_reason<A: Growth, E: Sink>(
+    alloc: A,
+    name: Option<&str>,
+    reason: LineReason,
+    errors: &mut E,
+)
     ensures { ((text : List ℕ) × Appends (E.contents errors.old) (E.contents errors.new) text) ⊎ HasFailed E.Fails }
 {
     let mut line = Vec::new(alloc);
     let made = match name {
-        Some(name) => Global::append_text(
-            &mut line,
-            format_args_nl!("daide-gate: {name}: {reason}"),
-        ),
-        None => Global::append_text(&mut line, format_args_nl!("daide-gate: {reason}")),
+        Some(name) => A::append_text(&mut line, format_args_nl!("daide-gate: {name}: {reason}")),
+        None => A::append_text(&mut line, format_args_nl!("daide-gate: {reason}")),
     };
     if made.is_err() {
         line.clear();
@@ -124,7 +125,7 @@ fn print_reason<E: Sink>(alloc: Global, name: Option<&str>, reason: LineReason, 
 
 /// Reports why a line is not a log line, if that is the fault. A failure has no effect.
 #[tactic(auto, using(crate::proofs::EndingLemmas::appends_nothing))]
-fn print_why<E: Sink>(alloc: Global, name: Option<&str>, refused: RefusedLog, errors: &mut E)
+fn print_why<A: Growth, E: Sink>(alloc: A, name: Option<&str>, refused: RefusedLog, errors: &mut E)
     ensures { SaysWhy (HasFailed E.Fails) refused.fault (E.contents errors.old) (E.contents errors.new) }
 {
     let RefusedLog { fault, reason } = refused;
@@ -136,8 +137,8 @@ fn print_why<E: Sink>(alloc: Global, name: Option<&str>, refused: RefusedLog, er
 
 /// Reports the fault of a log, after its name, if there are several, and what is wrong with a line that is not a log line.
 /// Returns the status. A failure to write the latter has no effect.
-pub(crate) fn print_log_fault<E: Sink>(
-    alloc: Global,
+pub(crate) fn print_log_fault<A: Growth, E: Sink>(
+    alloc: A,
     name: Option<&str>,
     refused: RefusedLog,
     errors: &mut E,

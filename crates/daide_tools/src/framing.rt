@@ -85,7 +85,14 @@ fn line_of<A: Growth>(alloc: A, words: &[&str]) -> Result<Vec<u8, A>, AllocError
 /// before it, and each fault has its cause.
 ///
 /// Not said: that no read of the arguments fails.
-pub fn run_frame<A: Growth + Copy, R: AllocGlobal + FileOpener, I: Source, O: Sink, E: Write>(
+pub fn run_frame<
+    A: Growth + Copy,
+    F: Source + Drop,
+    R: AllocGlobal + FileOpener<F>,
+    I: Source,
+    O: Sink,
+    E: Write,
+>(
     alloc: A,
     rt: &R,
     order: FrameOrder<'_, '_>,
@@ -94,7 +101,7 @@ pub fn run_frame<A: Growth + Copy, R: AllocGlobal + FileOpener, I: Source, O: Si
     errors: &mut E,
 ) -> io::Result<u8>
     ensures bounded { IfOk result (λ status. status ≤ FAULT) }
-    ensures framed { IfOk result (FrameRuns R.Opens R.File.remaining (HasFailed I.Fails) (WasRefused A.Refuses)
+    ensures framed { IfOk result (FrameRuns R.Opens F.remaining (HasFailed I.Fails) (WasRefused A.Refuses)
         (HasFailed O.Fails) order.entry (I.remaining input.old) (O.contents output.old) (O.contents output.new)) }
 {
     let words = match words_at(rt, order.words) {

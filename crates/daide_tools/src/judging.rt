@@ -13,25 +13,26 @@ use crate::faults::{CLEAN, FAULT, print_fault};
 use crate::opening::FileOpener;
 use crate::settings_file::{SettingsFileFault, read_text};
 use crate::trying::try_settings;
-use daide_causes::{Growth, Sink};
+use daide_causes::{Growth, Sink, Source};
 use daide_command_line::arguments::SettingsOrder;
 use daide_settings::{
     JudgeFault, Settings, SettingsError, SettingsMemory, judge_settings, read_settings,
 };
+use daide_sockets::control_listener::FolderLock;
 use daide_sockets::lingering_close::MOST_CLOSING;
 use std::alloc::AllocError;
 use std::io;
 use std::io::{Read, Write};
 use std::net::Net;
-use std::rt::{Clock, Files};
+use std::rt::Clock;
 use thiserror::Error;
 
 /// The descriptors of a run without a session: its three streams, the listener, the poller, which takes two, and one that an
 /// accept of a bot leaves free.
 const OWN_DESCRIPTORS: usize = 7;
 
-/// The descriptors of a control socket: its listener and its four connections.
-const CONTROL_DESCRIPTORS: usize = 5;
+/// The descriptors of a control socket: its listener and its eight connections.
+const CONTROL_DESCRIPTORS: usize = 9;
 
 /// Why settings were not judged.
 #[derive(Debug, Drop, Error)]
@@ -206,7 +207,7 @@ fn judge_input<'a, A: SettingsMemory, I: Read, O: Sink>(
 
 /// Returns the status of a judgement. Reports a fault on standard error. If that is ordered, the addresses of settings
 /// without a fault are tried.
-fn end_judged<R: AllocGlobal + Files + Clock + Net, O: Sink, E: Write>(
+fn end_judged<R: AllocGlobal + FolderLock + Clock + Net, O: Sink, E: Write>(
     rt: &R,
     answer: Result<Option<Settings>, SettingsFault<'_>>,
     is_tried: bool,
@@ -226,7 +227,13 @@ fn end_judged<R: AllocGlobal + Files + Clock + Net, O: Sink, E: Write>(
 }
 
 /// Judges the settings in a reader, which is the file of this order. Returns the status.
-fn judge_read<A: SettingsMemory, R: AllocGlobal + Files + Clock + Net, I: Read, O: Sink, E: Write>(
+fn judge_read<
+    A: SettingsMemory,
+    R: AllocGlobal + FolderLock + Clock + Net,
+    I: Read,
+    O: Sink,
+    E: Write,
+>(
     alloc: A,
     rt: &R,
     order: SettingsOrder<'_>,
@@ -254,7 +261,8 @@ fn judge_read<A: SettingsMemory, R: AllocGlobal + Files + Clock + Net, I: Read, 
 /// Not said: why an input cannot be read, or why a trial fails.
 pub fn run_settings<
     A: SettingsMemory,
-    R: AllocGlobal + FileOpener + Clock + Net,
+    F: Source + Drop,
+    R: AllocGlobal + FileOpener<F> + FolderLock + Clock + Net,
     I: Read,
     O: Sink,
     E: Write,
@@ -267,7 +275,7 @@ pub fn run_settings<
     errors: &mut E,
 ) -> io::Result<u8>
     ensures bounded { IfOk result (λ status. status ≤ FAULT) }
-    ensures judged { IfOk result (SettingsRuns R.Opens R.File.remaining
+    ensures judged { IfOk result (SettingsRuns R.Opens F.remaining
         (AreSettingsRefused A.Memory.Refuses A.SettingsMemory.Refuses) (HasFailed O.Fails) order.entry
         (I.remaining input.old) (I.remaining input.new) (O.contents output.old) (O.contents output.new)) }
 {

@@ -10,22 +10,23 @@ use std::net::Net;
 use std::os::unix::net::UnixStream;
 use std::rt::{Clock, Files};
 use std::thread::sleep;
-use std::time::Duration;
+use std::time::{Duration, Instant};
 
-/// Opens files to be read; every file system does. Code that is generic in it does not know `Opens`, so it can show `Opens`
-/// only of the result of a call. So a contract that ends in `Opens` speaks of what was opened by this very name.
+/// Opens files `F` to be read; every file system does. Code that is generic in both does not know `Opens`, so it can
+/// show `Opens` only of the result of a call. So a contract that ends in `Opens` speaks of what was opened by this very
+/// name. Nor does it know `Fails` of an `F`: it can show that a read failed only of a file that it opened.
 ///
 /// Not said: that the system opens the file of that name. Tests show it.
-pub trait FileOpener: Files {
+pub trait FileOpener<F>: Files {
     /// Opening a file by this name had this result.
-    ghost Opens: { List ℕ → Result Self.File ErrorKind → Type 0 };
+    ghost Opens: { List ℕ → Result F ErrorKind → Type 0 };
 
     /// Opens the file of this name, or returns the system's error.
-    fn open_input(&self, name: &str) -> Result<Self::File, ErrorKind>
+    fn open_input(&self, name: &str) -> Result<F, ErrorKind>
         ensures { Opens name.now result };
 }
 
-impl<R: Files> FileOpener for R {
+impl<R: Files> FileOpener<R::File> for R {
     ghost Opens = { λ _ _. Unit {0} };
 
     fn open_input(&self, name: &str) -> Result<R::File, ErrorKind> {
@@ -40,13 +41,10 @@ const MOST_WAITS: u64 = 50;
 const WAIT_MILLIS: u64 = 100;
 
 /// Returns the number of waits within a time, at most `MOST_WAITS`.
-fn waits_within(timeout: Option<Duration>) -> u64
+fn waits_within(time: Duration) -> u64
     ensures { result ≤ MOST_WAITS }
 {
-    match timeout {
-        Some(time) => (time.as_secs().saturating_mul(1_000) / WAIT_MILLIS).min(MOST_WAITS),
-        None => MOST_WAITS,
-    }
+    (time.as_secs().saturating_mul(1_000) / WAIT_MILLIS).min(MOST_WAITS)
 }
 
 /// Connects to the socket at a path, or returns the system's error, with the number of waits so far. It waits while the
@@ -71,17 +69,14 @@ fn connect_within<R: Clock + Net>(
 }
 
 /// Connects to the control socket at a path (`RunReacher::reach_run`).
-fn connect<R: Clock + Net>(
-    rt: &R,
-    path: &str,
-    timeout: Option<Duration>,
-) -> Result<UnixStream, ErrorKind> {
-    let (stream, waited) = connect_within(rt, path, waits_within(timeout))?;
+fn connect<R: Clock + Net>(rt: &R, path: &str, time: Duration) -> Result<UnixStream, ErrorKind> {
+    let (stream, waited) = connect_within(rt, path, waits_within(time))?;
     let spent = Duration::from_millis(waited * WAIT_MILLIS);
-    let shortest = Duration::from_millis(WAIT_MILLIS);
-    let left = timeout.map(|time| time.saturating_sub(spent).max(shortest));
+    let left = time
+        .saturating_sub(spent)
+        .max(Duration::from_millis(WAIT_MILLIS));
     let made = stream.set_nonblocking(false);
-    match made.and_then(|()| stream.set_read_timeout(left)) {
+    match made.and_then(|()| stream.set_read_timeout(Some(left))) {
         Ok(()) => Ok(stream),
         Err(error) => Err(error.kind()),
     }
@@ -98,16 +93,63 @@ pub trait RunReacher<S>: Clock + Net {
     ghost Reaches: { List ℕ → Result S ErrorKind → Type 0 };
 
     /// Connects to the control socket at a path, or returns the system's error: `WouldBlock` if its queue was full for this
-    /// time, or for five seconds, if that is shorter. Each read waits for what is left of the time; without a time it waits
-    /// until something comes.
-    fn reach_run(&self, path: &str, timeout: Option<Duration>) -> Result<S, ErrorKind>
+    /// time, or for five seconds, if that is shorter. Each read waits for what is left of the time.
+    fn reach_run(&self, path: &str, time: Duration) -> Result<S, ErrorKind>
         ensures { Reaches path.now result };
+
+    /// Lets each further read of a stream wait for this time; without a time it waits until something comes.
+    fn set_wait(&self, stream: &S, time: Option<Duration>) -> Result<(), ErrorKind>;
 }
 
 impl<R: Clock + Net> RunReacher<UnixStream> for R {
     ghost Reaches = { λ _ _. Unit {0} };
 
-    fn reach_run(&self, path: &str, timeout: Option<Duration>) -> Result<UnixStream, ErrorKind> {
-        connect(self, path, timeout)
+    fn reach_run(&self, path: &str, time: Duration) -> Result<UnixStream, ErrorKind> {
+        connect(self, path, time)
+    }
+
+    fn set_wait(&self, stream: &UnixStream, time: Option<Duration>) -> Result<(), ErrorKind> {
+        stream.set_read_timeout(time).map_err(|error| error.kind())
+    }
+}
+
+/// The longest silence of a run that is to answer, in seconds.
+pub(crate) const ANSWER_SECONDS: u64 = 5;
+
+/// The time that an order may take, from when it begins.
+#[derive(Clone, Copy)]
+pub(crate) struct Limit {
+    /// When the order began, if the clock says it.
+    begun: Option<Instant>,
+    /// The time until it is given up; `None` if it is not.
+    time: Option<Duration>,
+}
+
+impl Limit {
+    /// Begins the time of an order.
+    pub(crate) fn begin<R: Clock>(rt: &R, timeout: Option<u32>) -> Limit {
+        Limit {
+            begun: Instant::now(rt).ok(),
+            time: timeout.map(|seconds| Duration::from_secs(seconds as u64)),
+        }
+    }
+
+    /// Returns the time in which the run is to answer.
+    pub(crate) fn to_answer(&self) -> Duration {
+        let most = Duration::from_secs(ANSWER_SECONDS);
+        match self.time {
+            Some(time) => time.min(most),
+            None => most,
+        }
+    }
+
+    /// Returns the time that is left, and a millisecond if none is.
+    pub(crate) fn left<R: Clock>(&self, rt: &R) -> Option<Duration> {
+        let spent = match (self.begun, Instant::now(rt)) {
+            (Some(begun), Ok(now)) => now.saturating_duration_since(begun),
+            _ => Duration::from_secs(0),
+        };
+        let time = self.time?;
+        Some(time.saturating_sub(spent).max(Duration::from_millis(1)))
     }
 }

@@ -7,6 +7,7 @@ ghost use Rattle.daide_tools.specs.Endings.{AreSettingsAt, AreWordsAt};
 ghost use Rattle.daide_tools.specs.Opened.{IsTextAt};
 
 use crate::opening::FileOpener;
+use daide_causes::Source;
 use daide_settings::{Settings, SettingsError, judge_settings, read_settings};
 use daide_words::Words;
 use std::alloc::{AllocError, Allocator, Global};
@@ -60,11 +61,11 @@ pub fn read_text<'a, A: Allocator, I: Read>(
 }
 
 /// Reads the text of the file of settings of this name.
-pub fn text_at<'a, R: AllocGlobal + FileOpener>(
+pub fn text_at<'a, F: Source + Drop, R: AllocGlobal + FileOpener<F>>(
     rt: &R,
     path: &'a str,
 ) -> Result<String, SettingsFileFault<'a>>
-    ensures { IfOk result (λ text. IsTextAt R.Opens R.File.remaining path.now (string_bytes text)) }
+    ensures { IfOk result (λ text. IsTextAt R.Opens F.remaining path.now (string_bytes text)) }
 {
     match rt.open_input(path) {
         Ok(mut file) => read_text(rt.alloc(), path, &mut file),
@@ -88,11 +89,11 @@ fn refusal_of(alloc: Global, text: &str) -> Result<String, AllocError> {
 }
 
 /// Reads the settings of the file of this name.
-pub(crate) fn settings_at<'a, R: AllocGlobal + FileOpener>(
+pub(crate) fn settings_at<'a, F: Source + Drop, R: AllocGlobal + FileOpener<F>>(
     rt: &R,
     path: &'a str,
 ) -> Result<Settings, SettingsFileFault<'a>>
-    ensures { IfOk result (λ settings. AreSettingsAt R.Opens R.File.remaining path.now (given_of settings)) }
+    ensures { IfOk result (λ settings. AreSettingsAt R.Opens F.remaining path.now (given_of settings)) }
 {
     let text = text_at(rt, path)?;
     match read_settings(rt.alloc(), text.as_str()) {
@@ -106,11 +107,11 @@ pub(crate) fn settings_at<'a, R: AllocGlobal + FileOpener>(
 }
 
 /// Returns the words of the settings at a path; without a path, no words.
-pub(crate) fn words_at<'a, R: AllocGlobal + FileOpener>(
+pub(crate) fn words_at<'a, F: Source + Drop, R: AllocGlobal + FileOpener<F>>(
     rt: &R,
     path: Option<&'a str>,
 ) -> Result<Words, SettingsFileFault<'a>>
-    ensures words { IfOk result (λ words. AreWordsAt R.Opens R.File.remaining (option_map (λ name. name.now) path.entry)
+    ensures words { IfOk result (λ words. AreWordsAt R.Opens F.remaining (option_map (λ name. name.now) path.entry)
         (words_of words)) }
     ensures none { OnErr result (path.entry ≢ None) }
 {

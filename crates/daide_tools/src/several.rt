@@ -2,22 +2,22 @@
 
 ghost use Rattle.std.specs.Prelude.{◌≡◌, ◌≤◌, map, IfOk, IfErr, IfSome, OnOk, OnErr};
 ghost use Rattle.std.specs.Io.KnownBytes.{Appends};
-ghost use Rattle.daide_causes.specs.Causes.{HasFailed};
-ghost use Rattle.daide_tools.specs.Checking.{ChecksSeveral, EndsOne, EndsWithTable, IsCheckCause, ReportsLog, ReportsNamed, SaysOfNamed, fault_in, name_line, worse};
+ghost use Rattle.daide_causes.specs.Causes.{HasFailed, WasRefused};
+ghost use Rattle.daide_tools.specs.Checking.{CannotRead, ChecksSeveral, EndsOne, EndsWithTable, IsCheckCause, ReportsLog, ReportsNamed, SaysOfNamed, fault_in, name_line, worse};
 ghost use Rattle.daide_tools.specs.Opened.{standard_input};
 
 use crate::checking::{check_result, explained_result};
 use crate::faults::{CLEAN, FAULT, NOT_RELAYED, RefusedLog, print_log_fault};
 use crate::opening::FileOpener;
-use daide_causes::{Sink, Source};
+use daide_causes::{Growth, Sink, Source};
 use daide_log::{LineReason, LogFault, check_observed, explain_observed};
 use daide_transcript::{Sessions, write_table};
 use std::alloc::Global;
 use std::io;
 
 /// Writes the report of a log. Returns its status, or its fault.
-fn report_read<I: Source, O: Sink>(
-    alloc: Global,
+fn report_read<A: Growth + Copy, I: Source, O: Sink>(
+    alloc: A,
     is_explained: bool,
     input: &mut I,
     output: &mut O,
@@ -27,7 +27,7 @@ fn report_read<I: Source, O: Sink>(
     ensures bounded { IfOk result (λ status. status ≤ NOT_RELAYED) }
     ensures reported { ReportsLog is_explained (I.remaining input.old) (I.remaining input.new) (O.contents output.old)
         (O.contents output.new) result }
-    ensures caused { IfErr result (IsCheckCause (HasFailed I.Fails) (HasFailed O.Fails)) }
+    ensures caused { IfErr result (IsCheckCause (HasFailed I.Fails) (WasRefused A.Refuses) (HasFailed O.Fails)) }
 {
     if is_explained {
         return explained_result(explain_observed(alloc, input, output, sessions, reason));
@@ -51,7 +51,8 @@ pub(crate) fn write_name<O: Sink>(path: &str, output: &mut O) -> io::Result<()>
 }
 
 /// Writes the report of the log at a path, or of standard input for `-`. Returns its status, or its fault.
-fn report_at<R: AllocGlobal + FileOpener, I: Source, O: Sink>(
+fn report_at<A: Growth + Copy, F: Source + Drop, R: FileOpener<F>, I: Source, O: Sink>(
+    alloc: A,
     rt: &R,
     path: &str,
     is_explained: bool,
@@ -60,25 +61,19 @@ fn report_at<R: AllocGlobal + FileOpener, I: Source, O: Sink>(
     sessions: &mut Sessions,
 ) -> Result<u8, RefusedLog>
     ensures bounded { IfOk result (λ status. status ≤ NOT_RELAYED) }
-    ensures reported { ReportsNamed R.Opens R.File.remaining is_explained path.now (I.remaining input.old)
+    ensures reported { ReportsNamed R.Opens F.remaining is_explained path.now (I.remaining input.old)
         (I.remaining input.new) (O.contents output.old) (O.contents output.new) (fault_in result) }
-    ensures caused { IfErr result (λ refused. IsCheckCause (path.now ≡ standard_input → HasFailed I.Fails)
+    ensures caused { IfErr result (λ refused. IsCheckCause
+        (CannotRead R.Opens (HasFailed I.Fails) (HasFailed F.Fails) path.now) (WasRefused A.Refuses)
         (HasFailed O.Fails) refused.fault) }
 {
     let mut reason = None;
     let answer = if path == "-" {
-        report_read(
-            rt.alloc(),
-            is_explained,
-            input,
-            output,
-            sessions,
-            &mut reason,
-        )
+        report_read(alloc, is_explained, input, output, sessions, &mut reason)
     } else {
         match rt.open_input(path) {
             Ok(mut file) => report_read(
-                rt.alloc(),
+                alloc,
                 is_explained,
                 &mut file,
                 output,
@@ -96,7 +91,8 @@ fn report_at<R: AllocGlobal + FileOpener, I: Source, O: Sink>(
 
 /// Writes the name and the report of a log, and reports its fault. Returns its status. Returns `None` if a write failed,
 /// which is not reported.
-fn check_one<R: AllocGlobal + FileOpener, I: Source, O: Sink, E: Sink>(
+fn check_one<A: Growth + Copy, F: Source + Drop, R: FileOpener<F>, I: Source, O: Sink, E: Sink>(
+    alloc: A,
     rt: &R,
     path: &str,
     is_explained: bool,
@@ -106,8 +102,9 @@ fn check_one<R: AllocGlobal + FileOpener, I: Source, O: Sink, E: Sink>(
     sessions: &mut Sessions,
 ) -> io::Result<Option<u8>>
     ensures bounded { IfOk result (λ one. IfSome one (λ status. status ≤ NOT_RELAYED)) }
-    ensures checked { IfOk result (EndsOne R.Opens R.File.remaining is_explained
-        (SaysOfNamed (HasFailed I.Fails) (HasFailed O.Fails) (HasFailed E.Fails)) (HasFailed O.Fails) path.now
+    ensures checked { IfOk result (EndsOne R.Opens F.remaining is_explained
+        (SaysOfNamed (CannotRead R.Opens (HasFailed I.Fails) (HasFailed F.Fails)) (HasFailed O.Fails)
+        (HasFailed E.Fails)) (WasRefused A.Refuses) (HasFailed O.Fails) path.now
         (I.remaining input.old) (I.remaining input.new) (O.contents output.old) (O.contents output.new)
         (E.contents errors.old) (E.contents errors.new)) }
     ensures unsaid { OnErr result (HasFailed E.Fails) }
@@ -116,10 +113,10 @@ fn check_one<R: AllocGlobal + FileOpener, I: Source, O: Sink, E: Sink>(
         return Ok(None);
     }
     sessions.begin_log();
-    match report_at(rt, path, is_explained, input, output, sessions) {
+    match report_at(alloc, rt, path, is_explained, input, output, sessions) {
         Ok(status) => Ok(Some(status)),
         Err(refused) if matches!(refused.fault, LogFault::Write) => Ok(None),
-        Err(refused) => match print_log_fault(rt.alloc(), Some(path), refused, errors) {
+        Err(refused) => match print_log_fault(alloc, Some(path), refused, errors) {
             Ok(status) => Ok(Some(status)),
             Err(error) => Err(error),
         },
@@ -146,7 +143,7 @@ fn end_with_table<O: Sink, E: Sink>(
     errors: &mut E,
 ) -> io::Result<u8>
     ensures bounded { status ≤ NOT_RELAYED → IfOk result (λ given. given ≤ NOT_RELAYED) }
-    ensures ended { IfOk result (EndsWithTable (SaysOfNamed ⊥ (HasFailed O.Fails) (HasFailed E.Fails))
+    ensures ended { IfOk result (EndsWithTable (SaysOfNamed (λ _. ⊥) (HasFailed O.Fails) (HasFailed E.Fails))
         (O.contents output.old) (O.contents output.new) (E.contents errors.old) (E.contents errors.new) status) }
     ensures unsaid { OnErr result (HasFailed E.Fails) }
 {
@@ -168,7 +165,15 @@ fn end_with_table<O: Sink, E: Sink>(
 
 /// Writes the reports of logs, each after its name, and a table of their sessions. A log with a fault does not keep the
 /// others from their reports.
-pub(crate) fn check_several<R: AllocGlobal + FileOpener, I: Source, O: Sink, E: Sink>(
+pub(crate) fn check_several<
+    A: Growth + Copy,
+    F: Source + Drop,
+    R: AllocGlobal + FileOpener<F>,
+    I: Source,
+    O: Sink,
+    E: Sink,
+>(
+    alloc: A,
     rt: &R,
     paths: &[&str],
     is_explained: bool,
@@ -177,8 +182,9 @@ pub(crate) fn check_several<R: AllocGlobal + FileOpener, I: Source, O: Sink, E: 
     errors: &mut E,
 ) -> io::Result<u8>
     ensures bounded { IfOk result (λ status. status ≤ NOT_RELAYED) }
-    ensures checked { IfOk result (ChecksSeveral R.Opens R.File.remaining is_explained
-        (SaysOfNamed (HasFailed I.Fails) (HasFailed O.Fails) (HasFailed E.Fails)) (map (λ path. path.now) paths.now)
+    ensures checked { IfOk result (ChecksSeveral R.Opens F.remaining is_explained
+        (SaysOfNamed (CannotRead R.Opens (HasFailed I.Fails) (HasFailed F.Fails)) (HasFailed O.Fails)
+        (HasFailed E.Fails)) (WasRefused A.Refuses) (map (λ path. path.now) paths.now)
         (I.remaining input.old) (I.remaining input.new) (O.contents output.old) (O.contents output.new)
         (E.contents errors.old) (E.contents errors.new)) }
     ensures unsaid { OnErr result (HasFailed E.Fails) }
@@ -187,10 +193,19 @@ pub(crate) fn check_several<R: AllocGlobal + FileOpener, I: Source, O: Sink, E: 
     let mut status = CLEAN;
     let mut rest = paths;
     while let [path, others @ ..] = rest {
-        let checked = check_one(rt, path, is_explained, input, output, errors, &mut sessions)?;
+        let checked = check_one(
+            alloc,
+            rt,
+            path,
+            is_explained,
+            input,
+            output,
+            errors,
+            &mut sessions,
+        )?;
         let Some(one) = checked else {
             let refused = RefusedLog::without_line(LogFault::Write);
-            return print_log_fault(rt.alloc(), None, refused, errors);
+            return print_log_fault(alloc, None, refused, errors);
         };
         status = worse(status, one);
         rest = others;

@@ -121,7 +121,14 @@ fn show_words<A: Growth + Copy, O: Sink, E: Write>(
 ///
 /// `shown`: if the settings are read, the status is that of the result of `show_input` or of a fault before it, and each
 /// fault has its cause.
-pub fn run_show<A: Growth + Copy, R: AllocGlobal + FileOpener, I: Source, O: Sink, E: Write>(
+pub fn run_show<
+    A: Growth + Copy,
+    F: Source + Drop,
+    R: AllocGlobal + FileOpener<F>,
+    I: Source,
+    O: Sink,
+    E: Write,
+>(
     alloc: A,
     rt: &R,
     order: ShowOrder<'_, '_>,
@@ -130,7 +137,7 @@ pub fn run_show<A: Growth + Copy, R: AllocGlobal + FileOpener, I: Source, O: Sin
     errors: &mut E,
 ) -> io::Result<u8>
     ensures bounded { IfOk result (λ status. status ≤ NOT_RELAYED) }
-    ensures shown { IfOk result (ShowRuns R.Opens R.File.remaining (HasFailed I.Fails) (WasRefused A.Refuses)
+    ensures shown { IfOk result (ShowRuns R.Opens F.remaining (HasFailed I.Fails) (WasRefused A.Refuses)
         (HasFailed O.Fails) order.entry (I.remaining input.old) (O.contents output.old) (O.contents output.new)) }
 {
     let words = match words_at(rt, order.words) {

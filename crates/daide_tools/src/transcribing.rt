@@ -4,6 +4,7 @@ ghost use Rattle.std.specs.Prelude.{◌≡◌, ◌≤◌, IfOk};
 
 use crate::faults::{CLEAN, FAULT, RefusedLog, print_fault, print_log_fault};
 use crate::opening::FileOpener;
+use daide_causes::Source;
 use daide_command_line::arguments::TranscriptOrder;
 use daide_log::{LogFault, explain_observed};
 use daide_transcript::{MessageFormat, Transcript};
@@ -25,7 +26,7 @@ fn add_read<A: Allocator + Copy, I: Read>(
 }
 
 /// Adds the messages of the log at a path, or of standard input for `-`.
-fn add_at<'a, R: AllocGlobal + FileOpener, I: Read>(
+fn add_at<'a, F: Source + Drop, R: AllocGlobal + FileOpener<F>, I: Read>(
     rt: &R,
     path: &'a str,
     input: &mut I,
@@ -43,7 +44,13 @@ fn add_at<'a, R: AllocGlobal + FileOpener, I: Read>(
 
 /// Prints the messages of the logs at paths, or of standard input. A log with a fault does not keep the others from
 /// being read.
-pub fn run_transcript<R: AllocGlobal + FileOpener, I: Read, O: Write, E: Write>(
+pub fn run_transcript<
+    F: Source + Drop,
+    R: AllocGlobal + FileOpener<F>,
+    I: Read,
+    O: Write,
+    E: Write,
+>(
     rt: &R,
     order: TranscriptOrder<'_, '_>,
     input: &mut I,

@@ -13,11 +13,11 @@ use crate::faults::{CLEAN, FAULT, print_fault};
 use daide_causes::Sink;
 use daide_settings::{JudgeFault, Key, Settings};
 use daide_sockets::addresses::{AddressFault, try_connect, try_listen};
-use daide_sockets::control_listener::try_control;
+use daide_sockets::control_listener::{FolderLock, try_control};
 use std::io;
 use std::io::Write;
 use std::net::{Net, SocketAddr};
-use std::rt::{Clock, Files};
+use std::rt::Clock;
 
 /// The results of the trials of some settings.
 #[derive(Clone, Copy)]
@@ -32,7 +32,7 @@ struct Trials {
 
 /// Tries what a run with these settings begins with. No listener is left when the server is tried, so that the trial does
 /// not reach itself.
-fn trials_of<R: AllocGlobal + Files + Clock + Net>(rt: &R, settings: &Settings) -> Trials {
+fn trials_of<R: AllocGlobal + FolderLock + Clock + Net>(rt: &R, settings: &Settings) -> Trials {
     let listen = try_listen(rt, settings.listen.as_str());
     let server = try_connect(rt, settings.server.as_str());
     let control = match &settings.control {
@@ -128,7 +128,7 @@ fn print_failed<E: Write>(settings: &Settings, trials: Trials, errors: &mut E) -
 }
 
 /// Tries the addresses of settings without a fault, and reports what passed and what failed. Returns the status.
-pub(crate) fn try_settings<R: AllocGlobal + Files + Clock + Net, O: Sink, E: Write>(
+pub(crate) fn try_settings<R: AllocGlobal + FolderLock + Clock + Net, O: Sink, E: Write>(
     rt: &R,
     settings: &Settings,
     output: &mut O,

@@ -1,8 +1,7 @@
 //! The cells of a table or a transcript. An unknown one is a dash.
 
 use daide_frame::Side;
-use daide_protocol::{BotName, Deed, NameText};
-use daide_token::write_text;
+use daide_protocol::{BotName, Deed, NameText, Power};
 use std::io;
 use std::io::Write;
 
@@ -50,9 +49,9 @@ pub(crate) fn put_name<W: Write>(name: Option<NameText>, out: &mut W) -> io::Res
 }
 
 /// Writes a power.
-pub(crate) fn put_power<W: Write>(power: Option<[u8; 2]>, out: &mut W) -> io::Result<()> {
+pub(crate) fn put_power<W: Write>(power: Option<Power>, out: &mut W) -> io::Result<()> {
     match power {
-        Some(token) => write_text(&token, out),
+        Some(power) => write!(out, "{power}"),
         None => out.write_all(b"-"),
     }
 }

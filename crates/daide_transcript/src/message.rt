@@ -68,7 +68,7 @@ fn put_columns(message: &Message<'_>, out: &mut Vec<u8>) -> io::Result<()> {
     out.write_all(b"\t")?;
     put_name(message.session.name, out)?;
     out.write_all(b"\t")?;
-    put_power(message.session.power(), out)?;
+    put_power(message.session.power, out)?;
     write!(out, "\t{}\t", side_name(message.side))?;
     put_text(message, out)?;
     if message.deed != Deed::Relayed {
@@ -139,7 +139,7 @@ fn put_json_session(session: &SessionResult, out: &mut Vec<u8>) -> io::Result<()
             out.write_all(b"\",\"power\":")?;
         }
     }
-    match session.power() {
+    match session.power {
         None => out.write_all(b"null"),
         power => {
             out.write_all(b"\"")?;

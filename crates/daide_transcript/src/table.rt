@@ -38,7 +38,7 @@ fn put_cells(session: &SessionResult, out: &mut Vec<u8>) -> io::Result<()> {
     out.write_all(b"\t")?;
     put_name(session.name, out)?;
     out.write_all(b"\t")?;
-    put_power(session.power(), out)?;
+    put_power(session.power, out)?;
     let counts = session.counts;
     let (relayed, prn, huh) = (counts.relayed, counts.prn, counts.huh);
     write!(out, "\t{relayed}\t{prn}\t{huh}\t{}\t", counts.faults)?;

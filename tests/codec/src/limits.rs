@@ -23,6 +23,7 @@ const LIMITS: &[Limit] = &[
     ("idle_seconds", 0, [0, 86_400], [-1, 86_401]),
     ("stall_seconds", 60, [0, 86_400], [-1, 86_401]),
     ("max_per_address", 0, [0, 256], [-1, 257]),
+    ("max_refused", 0, [0, 1_000_000], [-1, 1_000_001]),
 ];
 
 /// A key of `LIMITS` by its index, with a number, and whether that is in its range.
@@ -46,10 +47,10 @@ fn numbers_of(alloc: Global, settings: &Settings) -> Result<String, Fail> {
     let (im_seconds, max_sessions) = (settings.im_seconds, settings.max_sessions);
     let (sessions, turns) = (settings.sessions, settings.turns);
     let (idle_seconds, stall_seconds) = (settings.idle_seconds, settings.stall_seconds);
-    let max_per_address = settings.max_per_address;
+    let (max_per_address, max_refused) = (settings.max_per_address, settings.max_refused);
     Ok(format!(in alloc;
         "{top_level} {max_body} {max_depth} {im_seconds} {max_sessions} {sessions} {turns} \
-        {idle_seconds} {stall_seconds} {max_per_address} "
+        {idle_seconds} {stall_seconds} {max_per_address} {max_refused} "
     )?)
 }
 

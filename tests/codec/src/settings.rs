@@ -123,6 +123,12 @@ const LINES: &[Row] = &[
     ("max_per_address = 257", "max_per_address out of range"),
     ("max_per_address = true", "wrong type for max_per_address"),
     ("max_per_address = 257\nallow = []", "allow out of range"),
+    ("max_refused = 0", ""),
+    ("max_refused = 1000000", ""),
+    ("max_refused = 1000001", "max_refused out of range"),
+    ("max_refused = \"9\"", "wrong type for max_refused"),
+    ("max_refused = -1\nmax_per_address = 257", "max_per_address out of range"),
+    ("control = \"\"\nmax_refused = -1", "max_refused out of range"),
     ("control = \"c\"", ""),
     ("control = \"\"", "control out of range"),
     ("control = 1", "wrong type for control"),
@@ -275,7 +281,7 @@ fn assert_settings(
     settings: &Settings,
     addresses: (&str, &str),
     limits: (Config, u32),
-    run: (usize, u32, u64, u32, u32, bool, u16),
+    run: (usize, u32, u64, u32, u32, bool, u16, u32),
     words: usize,
 ) -> Result<(), Fail> {
     let are_there = (settings.listen.as_str(), settings.server.as_str());
@@ -287,6 +293,7 @@ fn assert_settings(
         settings.stall_seconds,
         settings.endless,
         settings.max_per_address,
+        settings.max_refused,
     );
     let of_session = (settings.config, settings.im_seconds);
     let told = (are_there, of_session, of_run);
@@ -305,7 +312,7 @@ const DEFAULTS: Config = Config {
 fn two_addresses_give_the_defaults(rt: HostRuntime) -> Result<(), Fail> {
     let settings = read_settings(rt.alloc(), ADDRESSES)?;
     let addresses = ("127.0.0.1:16713", "127.0.0.1:16714");
-    let run = (16, 1, 1_000_000_000, 0, 60, false, 0);
+    let run = (16, 1, 1_000_000_000, 0, 60, false, 0, 0);
     assert_settings(&settings, addresses, (DEFAULTS, 30), run, 0)?;
     same(&settings.control.is_none(), &true, &"no control")?;
     let everyone = [in_range(Host::V4(0), 0), in_range(Host::V6(0), 0)];
@@ -323,7 +330,7 @@ fn in_range(host: Host, prefix: u8) -> AddressRange {
 
 /// Each key with a value of its own, in reverse order.
 const EACH_KEY: &str =
-    "control = \"c\"\nmax_per_address = 10\nallow = [ \"127.0.0.0/8\", \"::1\" ]\nendless = true\nstall_seconds = 9\nwords = [ { name = \"XYZ\", code = 0x4A40, slot = \"press\", level = 20, operand = \"power\" } ]\n\
+    "control = \"c\"\nmax_refused = 11\nmax_per_address = 10\nallow = [ \"127.0.0.0/8\", \"::1\" ]\nendless = true\nstall_seconds = 9\nwords = [ { name = \"XYZ\", code = 0x4A40, slot = \"press\", level = 20, operand = \"power\" } ]\n\
     idle_seconds = 8\nturns = 7\nsessions = 6\nmax_sessions = 5\nim_seconds = 4\nmax_depth = 13\nmax_body = 1024\n\
     top_level = 20\nserver = \"s:2\"\nlisten = \"l:1\"\n";
 
@@ -337,7 +344,7 @@ const OWN_LIMITS: Config = Config {
 #[test]
 fn each_key_sets_its_own_field(rt: HostRuntime) -> Result<(), Fail> {
     let settings = read_settings(rt.alloc(), EACH_KEY)?;
-    let run = (5, 6, 7, 8, 9, true, 10);
+    let run = (5, 6, 7, 8, 9, true, 10, 11);
     assert_settings(&settings, ("l:1", "s:2"), (OWN_LIMITS, 4), run, 1)?;
     let control = settings.control.as_ref().map(|path| path.as_str());
     same(&control, &Some("c"), &"control")?;

@@ -5,6 +5,7 @@ use crate::doors::any_port;
 use crate::frames::{FM, IM};
 use daide_run::run_text;
 use daide_sockets::addresses::{try_connect, try_listen};
+use daide_sockets::control_listener::FolderLock;
 use daide_test_support::rows::holds;
 use std::alloc::{Allocator, Global};
 use std::fs::{Metadata, OpenOptions};
@@ -139,7 +140,7 @@ impl<R: Net> Write for Announced<'_, R> {
 }
 
 /// Runs with a bot that connects once the run listens. Checks that one line is printed, and nothing is logged.
-fn serves_one<R: AllocGlobal + Files + Clock + Net>(
+fn serves_one<R: AllocGlobal + FolderLock + Clock + Net>(
     rt: &R,
     (listen, at): (&str, &str),
     to: &str,

@@ -56,7 +56,7 @@ fn wrong_step(
 }
 
 /// The keys of the first and of the second closing socket.
-const KEYS: (usize, usize) = (8, 9);
+const KEYS: (usize, usize) = (12, 13);
 
 /// Returns a socket with three bytes in its write buffer.
 fn holding(pool: &Pool, wire: Wire) -> Socket<'_, Wire> {

@@ -9,7 +9,8 @@ use daide_io::duplex::Duplex;
 use daide_io::network::{ConnectReport, Network, SocketEvent};
 use daide_io::ports::{ClockEvent, Ports, Pull};
 use daide_io::ready_queue::ReadyQueue;
-use daide_io::system::{Connect, Orders, System};
+use daide_io::system::{Cause, Connect, Orders, SessionEnd, System};
+use daide_protocol::account::Account;
 use daide_settings::{Settings, read_settings};
 use daide_sockets::ports::SocketPorts;
 use daide_sockets::system::Sockets;
@@ -270,7 +271,14 @@ const NOBODY: &[u8] = b"\
 \"prn\":{\"bot\":0,\"server\":0},\"huh\":{\"bot\":0,\"server\":0}},\"ends\":{\"bot ended\":0,\"server ended\":0,\
 \"bot lost\":0,\"server lost\":0,\"FM of bot\":0,\"FM of server\":0,\"EM of bot\":0,\"EM of server\":0,\
 \"fault of bot\":0,\"fault of server\":0,\"no IM in time\":0,\"stopped by the operator\":0,\"bot silent\":0,\
-\"server silent\":0,\"bot took nothing\":0,\"server took nothing\":0,\"turns spent\":0,\"no server\":0}}}\n";
+\"server silent\":0,\"bot took nothing\":0,\"server took nothing\":0,\
+\"too many refusals of bot\":0,\"too many refusals of server\":0,\"turns spent\":0,\"no server\":0}}}\n";
+
+/// The answer to a stop that waits.
+const STOPPING: &[u8] = b"stopping\n";
+
+/// A client that requests a stop, and waits.
+const STOPS: Client = (&[Bytes(b"stop\n")], 99);
 
 /// 63 bytes without a line feed.
 const LONG: &[u8] = b"status table status table status table status table status tabl";
@@ -317,19 +325,97 @@ const ASKED: &[Asked] = &[
     (&[(&[End], 99)], 0, 6, UNKNOWN, false, 1),
     (&[(&[Bytes(b"stop"), End], 99)], 0, 8, UNKNOWN, false, 1),
     (&[(&[Bytes(b"stop"), Fails], 99)], 0, 8, UNKNOWN, false, 1),
-    // A stop has no answer, and its connection stays open.
-    (&[(&[Bytes(b"stop\n")], 99)], 0, 6, b"", true, 0),
-    (&[(&[Bytes(b"stop\n")], 99)], 900, 20, b"", true, 0),
+    // A stop that its client waits for is answered, and its connection stays open.
+    (&[STOPS], 0, 6, STOPPING, true, 0),
+    (&[STOPS], 500, 20, STOPPING, true, 0),
     (
         &[(&[Bytes(b"st"), Later, Bytes(b"op\n")], 99)],
         0,
         9,
-        b"",
+        STOPPING,
         true,
         0,
     ),
-    (&[(&[Bytes(b"stop now\n")], 99)], 0, 6, b"", true, 0),
-    (&[(&[Bytes(b"stop\n"), End], 99)], 0, 8, b"", true, 1),
+    (&[(&[Bytes(b"stop now\n")], 99)], 0, 6, STOPPING, true, 0),
+    (
+        &[(&[Bytes(b"stop\n"), Later, End], 99)],
+        0,
+        9,
+        STOPPING,
+        true,
+        1,
+    ),
+    // What follows the line is ignored.
+    (
+        &[(&[Bytes(b"stop\n"), Bytes(b"x")], 99)],
+        0,
+        9,
+        STOPPING,
+        true,
+        0,
+    ),
+    // A stop whose client is gone is not carried out.
+    (&[(&[Bytes(b"stop\n"), End], 99)], 0, 9, b"", false, 1),
+    (&[(&[Bytes(b"stop now\n"), End], 99)], 0, 9, b"", false, 1),
+    (&[(&[Bytes(b"stop\n"), Fails], 99)], 0, 9, b"", false, 1),
+    (
+        &[(&[Bytes(b"stop\n"), Bytes(b"x"), End], 99)],
+        0,
+        9,
+        b"",
+        false,
+        1,
+    ),
+    (
+        &[(&[Bytes(b"stop session 7\n"), End], 99)],
+        0,
+        9,
+        b"",
+        false,
+        1,
+    ),
+    // No session is there.
+    (
+        &[(&[Bytes(b"stop session 7\n")], 99)],
+        0,
+        6,
+        b"no session 7\n",
+        false,
+        1,
+    ),
+    (
+        &[(&[Bytes(b"stop session 4294967295\n")], 5)],
+        0,
+        12,
+        b"no session 4294967295\n",
+        false,
+        1,
+    ),
+    // Four stops wait. A fifth does not, but it is carried out, and other requests are answered.
+    (
+        &[STOPS, STOPS, STOPS, STOPS, STOPS, (&[Bytes(b"?\n")], 99)],
+        0,
+        12,
+        b"stopping\nstopping\nstopping\nstopping\ntoo many wait\nunknown request\n",
+        true,
+        2,
+    ),
+    // Once a stop waits no longer, another one does.
+    (
+        &[
+            (&[Bytes(b"stop\n"), Later, End], 99),
+            STOPS,
+            STOPS,
+            STOPS,
+            STOPS,
+            STOPS,
+        ],
+        0,
+        12,
+        b"stopping\nstopping\nstopping\nstopping\nstopping\ntoo many wait\n",
+        true,
+        2,
+    ),
     (
         &[(
             &[
@@ -347,7 +433,7 @@ const ASKED: &[Asked] = &[
         )],
         0,
         8,
-        b"",
+        STOPPING,
         true,
         0,
     ),
@@ -375,9 +461,11 @@ const ASKED: &[Asked] = &[
     (&[SILENT], 500, 4, b"", false, 0),
     (&[SILENT], 500, 5, b"", false, 1),
     (&[(&[Bytes(b"?\n")], 0)], 500, 9, b"", false, 1),
-    // Four at once: a fifth waits until one is closed.
+    // Eight at once: a ninth waits until one is closed.
     (
-        &[SILENT, SILENT, SILENT, SILENT, (&[Bytes(b"stop\n")], 99)],
+        &[
+            SILENT, SILENT, SILENT, SILENT, SILENT, SILENT, SILENT, SILENT, STOPS,
+        ],
         0,
         20,
         b"",
@@ -385,12 +473,14 @@ const ASKED: &[Asked] = &[
         0,
     ),
     (
-        &[SILENT, SILENT, SILENT, SILENT, (&[Bytes(b"stop\n")], 99)],
-        500,
-        20,
-        b"",
+        &[
+            SILENT, SILENT, SILENT, SILENT, SILENT, SILENT, SILENT, SILENT, STOPS,
+        ],
+        200,
+        30,
+        STOPPING,
         true,
-        4,
+        8,
     ),
 ];
 
@@ -498,7 +588,7 @@ fn turn_of<'w, 'n>(
     ports: &mut SocketPorts<'w, Line<'n>>,
 ) -> Found {
     let is_woken = ready.next(true) == Some(0);
-    sockets.begin_turn(0, ports);
+    sockets.begin_turn(0, &Account::new(), ports);
     let event = ports.clock(false);
     let bot = ports.pull(Side::Bot, &mut [0; 8]);
     (is_woken, event, bot, ports.pull(Side::Server, &mut [0; 8]))
@@ -533,6 +623,86 @@ fn session_ends_at_stop_now(rt: HostRuntime) -> Result<(), Fail> {
     same(&stopped, &requested, &"requested once")?;
     let again = turn_of(&mut sockets, &mut ready, &mut ports);
     same(&again, &(false, idle.0, idle.1, idle.2), &"not woken again")
+}
+
+/// A client that requests the stop of the first session, once that is there.
+const ENDS_FIRST: Client = (
+    &[
+        Later,
+        Later,
+        Later,
+        Later,
+        Later,
+        Later,
+        Later,
+        Bytes(b"stop session 1\n"),
+    ],
+    99,
+);
+
+/// Clients that request the stop of another session, five times that of the first one, and last the stop of the run.
+const STOPS_SESSION: &[Client] = &[
+    (&[Bytes(b"stop session 2\n")], 99),
+    ENDS_FIRST,
+    ENDS_FIRST,
+    ENDS_FIRST,
+    ENDS_FIRST,
+    ENDS_FIRST,
+    (
+        &[
+            Later,
+            Later,
+            Later,
+            Later,
+            Later,
+            Later,
+            Later,
+            Later,
+            Later,
+            Later,
+            Later,
+            Later,
+            Later,
+            Later,
+            Later,
+            Later,
+            Bytes(b"stop\n"),
+        ],
+        99,
+    ),
+];
+
+/// What they take.
+const SESSION_STOPPED: &[u8] = b"\
+no session 2\nstopping\nstopping\nstopping\nstopping\ntoo many wait\ntoo many wait\n";
+
+/// A stop of a session stops no run, and its client waits until the session is retired. Once four wait, a fifth stop of a
+/// session is not carried out, and one of the run is.
+#[test]
+fn stop_of_a_session_waits_for_its_end(rt: HostRuntime) -> Result<(), Fail> {
+    let settings = plain_settings(rt.alloc())?;
+    let seen = nothing_seen(rt.alloc());
+    let pool = Pool::new(rt.alloc());
+    let mut told = Vec::new(rt.alloc());
+    let server = [SocketAddr::from(([127, 0, 0, 1], 16_714))];
+    let resources = (door_of(STOPS_SESSION, 1, 50, &seen), server.as_slice());
+    let mut sockets = sockets_on(rt.alloc(), resources, &pool, &settings, &mut told)?;
+    let mut ready = ReadyQueue::new(rt.alloc(), 1)?;
+    let ports = first_ports(&mut sockets, &mut ready)?;
+    let orders = orders_after(&mut sockets, &mut ready, 14);
+    same(&orders, &Orders::NONE, &"no stop of the run")?;
+    let last = orders_after(&mut sockets, &mut ready, 14);
+    holds(last.stops_accepting, "the stop of the run")?;
+    holds(took(&seen, SESSION_STOPPED), "the answers")?;
+    same(&seen.closed.get(), &3, &"those that do not wait")?;
+    let end = SessionEnd {
+        cause: Cause::TurnsSpent,
+        fault_field: None,
+        account: Account::new(),
+    };
+    sockets.retire(0, ports, end);
+    let _orders = orders_after(&mut sockets, &mut ready, 3);
+    same(&seen.closed.get(), &7, &"those that waited")
 }
 
 /// Clients that request nothing: one that is silent, one whose line is too long, one with other bytes, one that ends

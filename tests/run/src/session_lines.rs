@@ -44,6 +44,8 @@ const CAUSES: &[(Why, &str)] = &[
     (Why::Silent(Side::Server), "server silent"),
     (Why::Stalled(Side::Bot, 60), "bot took nothing for 60 s"),
     (Why::Stalled(Side::Server, 1), "server took nothing for 1 s"),
+    (Why::Refused(Side::Bot), "too many refusals of bot"),
+    (Why::Refused(Side::Server), "too many refusals of server"),
     (Why::NoServer, "no server"),
 ];
 
@@ -102,6 +104,7 @@ fn times_are_named_in_place_of_the_event(_rt: HostRuntime) -> Result<(), Fail> {
             Cause::Session(*ending),
             None,
             &PerSide::new(*bot, *server),
+            None,
             60,
         );
         same(&why, want, ending)?;
@@ -132,6 +135,7 @@ const COUNTS: Account = Account {
     faults: 6,
     level: Level::L20,
     name: BotName::Unknown,
+    power: None,
 };
 
 /// Complete lines of sessions and of bots that get none.
@@ -144,7 +148,7 @@ fn lines_of_a_session(rt: HostRuntime) -> Result<(), Fail> {
     let ended = SessionNotice::Ended {
         number: 7,
         lasted: TIMED,
-        why: why_of(cause, None, &timed, 60),
+        why: why_of(cause, None, &timed, None, 60),
         account: COUNTS,
     };
     let alone = SessionNotice::Ended {

@@ -32,7 +32,8 @@ pub struct Wire {
     /// The number of bytes that it still returns. With none left, a read would block.
     gives: usize,
     writes: usize,
-    took: usize,
+    /// The number of bytes that it accepted.
+    pub took: usize,
     /// Whether writes fail.
     fails: bool,
 }
@@ -108,9 +109,9 @@ pub const READY: Readiness = Readiness {
     reads_on: false,
 };
 
-/// The rows of a table for one place and two closing sockets: of the place, whose keys are 0 and 1, of two listeners, of four
+/// The rows of a table for one place and two closing sockets: of the place, whose keys are 0 and 1, of two listeners, of eight
 /// control connections, and of the closing sockets.
-pub const ROWS: usize = 10;
+pub const ROWS: usize = 14;
 
 /// Returns a stream whose writes fail.
 pub fn broken() -> Wire {

@@ -5,6 +5,7 @@ use crate::relays::{NEVER, QUIET};
 use daide_gate::serving::Service;
 use daide_gate::system::{Connect, Notice, Orders, SessionEnd, SessionStatus, System};
 use daide_io::ready_queue::ReadyQueue;
+use daide_protocol::account::Account;
 use daide_test_support::memory_ports::{Acceptance, MemoryPorts, Script, ScriptedRead};
 use daide_test_support::rows::same;
 use std::alloc::{Allocator, Global};
@@ -84,7 +85,7 @@ impl System<MemoryPorts<'static>> for Crowd {
         Connect::Ready(MemoryPorts::new(self.alloc, bot, server, NEVER))
     }
 
-    fn begin_turn(&mut self, place: usize, ports: &mut MemoryPorts<'static>) {
+    fn begin_turn(&mut self, place: usize, _account: &Account, ports: &mut MemoryPorts<'static>) {
         let turns = if place < self.calm {
             &mut self.turns.0
         } else {

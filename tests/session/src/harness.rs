@@ -6,6 +6,7 @@ use daide_gate::settings::{Settings, read_settings};
 use daide_gate::system::{Cause, Connect, Notice, Orders, SessionEnd, SessionStatus, System};
 use daide_gate::{ByteCounts, FaultField, Level, Phase, SideCounts, Summary};
 use daide_io::ready_queue::ReadyQueue;
+use daide_protocol::account::Account;
 use daide_test_support::memory_ports::{Call, MemoryPorts, Script, ScriptedRead};
 use daide_test_support::rows::holds;
 use std::alloc::{Allocator, Global};
@@ -223,7 +224,7 @@ impl System<MemoryPorts<'static>> for Harness {
         }
     }
 
-    fn begin_turn(&mut self, place: usize, ports: &mut MemoryPorts<'static>) {
+    fn begin_turn(&mut self, place: usize, _account: &Account, ports: &mut MemoryPorts<'static>) {
         self.note(Event::Turn(place));
         ports.begin_turn();
     }

@@ -4,7 +4,7 @@ use crate::harness::{
     ENDING, ENDS_LATER, Event, Fate, Harness, Limits, Scene, Shown, assert_run, settings,
 };
 use daide_gate::serving::Service;
-use daide_gate::system::{Notice, Orders};
+use daide_gate::system::Orders;
 use daide_gate::{ByteCounts, Level, Phase, SideCounts};
 use daide_test_support::memory_ports::{Acceptance, MemoryPorts, Script, ScriptedRead};
 use daide_test_support::rows::{holds, same};
@@ -102,7 +102,6 @@ const ORDERED_RUNS: &[(Scene, Limits, &[Event])] = &[
             Event::Pending(0),
             Event::Waits,
             Event::Failed(0),
-            Event::Told(Notice::CannotReach),
         ],
     ),
     // an order to show without a bot, with one whose connect is pending, and with a session

@@ -5,6 +5,7 @@ use crate::relays::{NEVER, QUIET};
 use daide_gate::serving::Service;
 use daide_gate::system::{Connect, Notice, Orders, SessionEnd, SessionStatus, System};
 use daide_io::ready_queue::ReadyQueue;
+use daide_protocol::account::Account;
 use daide_test_support::memory_ports::MemoryPorts;
 use daide_test_support::rows::same;
 use std::alloc::{Allocator, Global};
@@ -49,7 +50,7 @@ impl System<MemoryPorts<'static>> for Silence {
         Connect::Ready(MemoryPorts::new(self.alloc, QUIET, QUIET, NEVER))
     }
 
-    fn begin_turn(&mut self, _place: usize, ports: &mut MemoryPorts<'static>) {
+    fn begin_turn(&mut self, _place: usize, _account: &Account, ports: &mut MemoryPorts<'static>) {
         self.note();
         ports.begin_turn();
     }

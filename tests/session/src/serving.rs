@@ -55,13 +55,7 @@ const RUNS: &[(Scene, Limits, &[Event])] = &[
             ..ENDING
         },
         (1, 1, 9),
-        &[
-            Event::Waits,
-            Event::Came(0),
-            Event::Looks,
-            Event::Failed(0),
-            Event::Told(Notice::CannotReach),
-        ],
+        &[Event::Waits, Event::Came(0), Event::Looks, Event::Failed(0)],
     ),
     // one session at once: the next bot is accepted in the round in which the first is retired
     (
@@ -108,7 +102,6 @@ const RUNS: &[(Scene, Limits, &[Event])] = &[
             Event::Pending(0),
             Event::Waits,
             Event::Failed(0),
-            Event::Told(Notice::CannotReach),
             Event::Came(0),
             Event::Looks,
             Event::Ready(0),
@@ -476,6 +469,5 @@ fn assert_text(alloc: Global, told: &impl Display, want: &str) -> Result<(), Fai
 #[test]
 fn texts_of_faults_and_notices(rt: HostRuntime) -> Result<(), Fail> {
     assert_text(rt.alloc(), &ServeFault::Memory, "out of memory")?;
-    assert_text(rt.alloc(), &Notice::TurnsSpent, "turns spent")?;
-    assert_text(rt.alloc(), &Notice::CannotReach, "cannot reach the server")
+    assert_text(rt.alloc(), &Notice::TurnsSpent, "turns spent")
 }

@@ -8,6 +8,7 @@ use daide_gate::{
     SessionStatus, System, Words, check_log,
 };
 use daide_io::ready_queue::ReadyQueue;
+use daide_protocol::account::Account;
 use daide_test_support::memory_ports::{MemoryPorts, Script, ScriptedRead};
 use daide_test_support::rows::{holds, same};
 use std::alloc::{Allocator, Global};
@@ -73,7 +74,7 @@ impl System<MemoryPorts<'static>> for Turns {
         Connect::Pending
     }
 
-    fn begin_turn(&mut self, _place: usize, ports: &mut MemoryPorts<'static>) {
+    fn begin_turn(&mut self, _place: usize, _account: &Account, ports: &mut MemoryPorts<'static>) {
         ports.begin_turn();
     }
 
@@ -115,14 +116,16 @@ fn timed(alloc: Global) -> Result<Vec<u8>, Fail> {
     let mut ports = Recording::new(ports, Some(record), Some(began));
     let mut buffer = [0; 1];
     for after in AFTER {
-        ports.begin_turn(0, &mut Turns, Some(moment(BEGAN.saturating_add(after))?));
+        let now = moment(BEGAN.saturating_add(after))?;
+        ports.begin_turn(0, &Account::new(), &mut Turns, Some(now));
         same(
             &ports.pull(Side::Bot, &mut buffer),
             &Pull::Got(1),
             &"a byte",
         )?;
     }
-    ports.begin_turn(0, &mut Turns, Some(moment(BEGAN.saturating_add(1000))?));
+    let now = moment(BEGAN.saturating_add(1000))?;
+    ports.begin_turn(0, &Account::new(), &mut Turns, Some(now));
     same(&ports.pull(Side::Bot, &mut buffer), &Pull::Idle, &"no byte")?;
     let (text, ending) = finished(ports)?;
     same(&ending, &RecordEnd::Whole, &"the record")?;

@@ -181,13 +181,15 @@ fn write_to(state: &mut State, index: usize, bytes: &[u8]) -> io::Result<usize> 
         return given_or_later(state.operator.take(bytes));
     }
     state.tally.writes = state.tally.writes.saturating_add(1);
-    if interrupts(state, index) {
-        return Err(ErrorKind::Interrupted.into());
-    }
     let reading = state.reading;
+    let is_interrupted = interrupts(state, index);
     let Some(wire) = state.wire(index) else {
         return Err(ErrorKind::NotConnected.into());
     };
+    if is_interrupted {
+        wire.refused_at = reading;
+        return Err(ErrorKind::Interrupted.into());
+    }
     if wire.is_reset {
         wire.told_failure = true;
         return Err(ErrorKind::BrokenPipe.into());
@@ -197,6 +199,7 @@ fn write_to(state: &mut State, index: usize, bytes: &[u8]) -> io::Result<usize> 
         wire.is_full = true;
     }
     if count == 0 {
+        wire.refused_at = reading;
         return Err(ErrorKind::WouldBlock.into());
     }
     let was_at_rest = wire.is_at_rest();

@@ -12,6 +12,7 @@ use daide_io::network::ConnectStatus;
 use daide_io::ports::{ClockEvent, Ports, Pull, Put};
 use daide_io::ready_queue::ReadyQueue;
 use daide_io::system::{Cause, Connect, Notice, Orders, SessionEnd, SessionStatus, System};
+use daide_protocol::account::Account;
 use daide_protocol::config::Config;
 use daide_protocol::ending::Ending;
 use daide_session::session::Session;
@@ -62,6 +63,14 @@ fn reading_of(world: &World) -> u64 {
 fn ends_sessions(world: &World) -> bool {
     match world.state.try_borrow_mut() {
         Ok(state) => state.operator.ends_sessions,
+        Err(_) => false,
+    }
+}
+
+/// Returns whether a stop was read.
+fn has_requested(world: &World) -> bool {
+    match world.state.try_borrow_mut() {
+        Ok(state) => state.operator.has_requested,
         Err(_) => false,
     }
 }
@@ -601,10 +610,17 @@ impl<'w, 'n> System<ObservedPorts<'w, 'n>> for ObservedSockets<'w, 'n> {
                 state.accepts = accepts;
             }
         }
+        // The run looks once more for a client of a stop, and carries it out by the next poll.
+        let is_late = has_requested(self.world);
         let orders = self.sockets.poll(may_block, ready);
         self.has_stopped = orders.stops_accepting;
         if let Ok(mut state) = self.world.state.try_borrow_mut() {
-            if state.operator.has_stopped != self.has_stopped {
+            if self.has_stopped && !state.operator.has_requested {
+                state.fail("a stop was not requested", 0);
+            }
+            if self.has_stopped {
+                state.operator.heed();
+            } else if is_late {
                 state.fail("a stop is not heeded", 0);
             }
         }
@@ -615,8 +631,8 @@ impl<'w, 'n> System<ObservedPorts<'w, 'n>> for ObservedSockets<'w, 'n> {
         self.sockets.show(&ports.ports, status);
     }
 
-    fn begin_turn(&mut self, place: usize, ports: &mut ObservedPorts<'w, 'n>) {
-        self.sockets.begin_turn(place, &mut ports.ports);
+    fn begin_turn(&mut self, place: usize, account: &Account, ports: &mut ObservedPorts<'w, 'n>) {
+        self.sockets.begin_turn(place, account, &mut ports.ports);
         if ports.machine.ending().is_none() {
             ports.turns = ports.turns.saturating_add(1);
         }

@@ -53,8 +53,8 @@ pub struct Operator {
     waiting: Option<Request>,
     is_listener_due: bool,
     client: Option<Client>,
-    /// Whether a stop was read, and whether it ends the sessions.
-    pub has_stopped: bool,
+    /// Whether a stop was read, and whether one was carried out that ends the sessions.
+    pub has_requested: bool,
     pub ends_sessions: bool,
 }
 
@@ -96,7 +96,7 @@ impl Operator {
             waiting: None,
             is_listener_due: false,
             client: None,
-            has_stopped: false,
+            has_requested: false,
             ends_sessions: false,
         }
     }
@@ -200,10 +200,14 @@ impl Operator {
         // What is left arrives later.
         client.is_due = client.read < line.len();
         if client.read == line.len() {
-            self.has_stopped = self.has_stopped || client.request != Request::Status;
-            self.ends_sessions = self.ends_sessions || client.request == Request::StopNow;
+            self.has_requested = self.has_requested || client.request != Request::Status;
         }
         count
+    }
+
+    /// Notes that the run carries its stop out.
+    pub fn heed(&mut self) {
+        self.ends_sessions = self.stop == Request::StopNow;
     }
 
     /// Takes bytes of an answer. Returns how many.

@@ -118,6 +118,8 @@ pub struct Wire {
     pub was_stalled: bool,
     /// The reading at which it last took a byte, or began to wait for that.
     pub moved_at: u64,
+    /// The reading at which a write last took none of its bytes.
+    pub refused_at: u64,
     /// The reading at which its closing began.
     pub closing_from: Option<u64>,
     /// The time at which writing was shut down.
@@ -169,6 +171,7 @@ impl Wire {
             told_failure: false,
             was_stalled: false,
             moved_at: now,
+            refused_at: 0,
             closing_from: None,
             shut_at: None,
             dropped: 0,
@@ -244,10 +247,12 @@ impl Wire {
         !self.expected.is_empty()
     }
 
-    /// Returns whether its stall timeout may be over, or was when its session ended.
+    /// Returns whether its stall timeout may be over, and a write after that took no byte, or whether that was so when its
+    /// session ended.
     pub fn is_stalled(&self, reading: u64, stall: u64) -> bool {
         let until = self.moved_at.saturating_add(stall);
-        self.was_stalled || stall > 0 && self.has_queued() && until <= reading
+        let is_late = until <= reading && until <= self.refused_at;
+        self.was_stalled || stall > 0 && self.has_queued() && is_late
     }
 
     /// Returns the reading at which it is closed at the latest: the stall timeout and a second after its closing began. The

@@ -66,7 +66,8 @@ fn fault_at(table: &Table, key: Key) -> Option<SettingsError>
         | Key::Turns
         | Key::IdleSeconds
         | Key::StallSeconds
-        | Key::MaxPerAddress => number_fault(table, key),
+        | Key::MaxPerAddress
+        | Key::MaxRefused => number_fault(table, key),
     }
 }
 
@@ -105,6 +106,7 @@ fn value_text_of(key: Key) -> &'static str
         Key::Endless => "true or false",
         Key::Allow => "an array of 1 to 16 strings, each an address with or without /PREFIX",
         Key::MaxPerAddress => "an integer from 0 to 256",
+        Key::MaxRefused => "an integer from 0 to 1000000",
         Key::Control => "a string of 1 to 100 bytes",
     }
 }
@@ -130,6 +132,7 @@ fn entry_text_of(key: Key) -> &'static str
         | Key::StallSeconds
         | Key::Endless
         | Key::MaxPerAddress
+        | Key::MaxRefused
         | Key::Control => "a table with name, code, slot, level and operand, and no other key",
     }
 }
@@ -456,7 +459,8 @@ fn unset_line(key: Key) -> &'static str
         | Key::Turns
         | Key::IdleSeconds
         | Key::StallSeconds
-        | Key::MaxPerAddress => "",
+        | Key::MaxPerAddress
+        | Key::MaxRefused => "",
     }
 }
 

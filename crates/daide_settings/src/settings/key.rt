@@ -51,6 +51,8 @@ pub enum Key {
     Allow,
     /// The greatest number of sessions at once with bots from one address: 0, for no limit, to 256; 0 by default.
     MaxPerAddress,
+    /// The number of refused messages of one side at which its session is stopped: 0, for never, to 1,000,000; 0 by default.
+    MaxRefused,
     /// The path of the Unix-domain socket on which the run takes an operator's requests: a text of 1 to 100 bytes; none by
     /// default.
     Control,
@@ -58,7 +60,7 @@ pub enum Key {
 
 impl Key {
     /// All keys, in the order of the checks.
-    pub const ALL: [Key; 16] = [
+    pub const ALL: [Key; 17] = [
         Key::Listen,
         Key::Server,
         Key::TopLevel,
@@ -74,6 +76,7 @@ impl Key {
         Key::Endless,
         Key::Allow,
         Key::MaxPerAddress,
+        Key::MaxRefused,
         Key::Control,
     ];
 
@@ -97,6 +100,7 @@ impl Key {
             Key::Endless => "endless",
             Key::Allow => "allow",
             Key::MaxPerAddress => "max_per_address",
+            Key::MaxRefused => "max_refused",
             Key::Control => "control",
         }
     }
@@ -120,6 +124,7 @@ impl Key {
             Key::IdleSeconds => Some(0),
             Key::StallSeconds => Some(60),
             Key::MaxPerAddress => Some(0),
+            Key::MaxRefused => Some(0),
         }
     }
 
@@ -148,6 +153,7 @@ impl Key {
             Key::Endless => false,
             Key::Allow => 1 <= number && number <= MAX_RANGES as u64,
             Key::MaxPerAddress => number <= MAX_SESSIONS as u64,
+            Key::MaxRefused => number <= 1_000_000,
             Key::Control => 1 <= number && number <= LONGEST_PATH,
         }
     }
@@ -182,6 +188,7 @@ pub(crate) fn is_known(text: &str) -> bool
             | "endless"
             | "allow"
             | "max_per_address"
+            | "max_refused"
             | "control"
     )
 }

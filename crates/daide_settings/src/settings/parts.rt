@@ -264,6 +264,7 @@ pub(super) fn faulty_part(key: Key, fault: SettingsError, value: Option<&Value>)
         | Key::StallSeconds
         | Key::Endless
         | Key::MaxPerAddress
+        | Key::MaxRefused
         | Key::Control => ValuePart::Whole,
     }
 }

@@ -244,6 +244,7 @@ fn settings_of<A: SettingsMemory>(alloc: A, table: &Table) -> Result<Settings, S
     let endless = flag_at(table, Key::Endless)?;
     let allow = ranges_at(found(table, Key::Allow))?;
     let max_per_address = u16_at(table, Key::MaxPerAddress)?;
+    let max_refused = u32_at(table, Key::MaxRefused)?;
     let control = text_at(table, Key::Control)?;
     let Ok((listen, server, control)) = copies_of(alloc, listen, server, control) else {
         return Err(SettingsError::Memory);
@@ -262,6 +263,7 @@ fn settings_of<A: SettingsMemory>(alloc: A, table: &Table) -> Result<Settings, S
         endless,
         allow,
         max_per_address,
+        max_refused,
         control,
     })
 }

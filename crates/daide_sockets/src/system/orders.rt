@@ -1,10 +1,10 @@
 //! What an operator requests of a run: its status, and its stop.
 
-ghost use Rattle.std.specs.Prelude.{◌≡◌, ◌≤◌, ◌&&◌, ◌||◌, ◌∷◌, [], None, nat_le, not, true, false, length};
+ghost use Rattle.std.specs.Prelude.{◌≡◌, ◌≤◌, ◌&&◌, ◌||◌, nat_le, not, true, false, length};
 ghost use Rattle.daide_io.specs.Network.{StopsListening};
 ghost use Rattle.daide_status.specs.declared.snapshot.RunStatus.{RunStatus};
 ghost use Rattle.daide_sockets.specs.Accepting.{is_bot_due, shut_if, ClosesOrNot};
-ghost use Rattle.daide_sockets.specs.ControlSlots.{BeginsRound, IsControlRow, places, arming_control, is_listener_due};
+ghost use Rattle.daide_sockets.specs.ControlSlots.{BeginsRound, IsControlRow, are_places_free, arming_control, is_listener_due};
 ghost use Rattle.daide_sockets.specs.KeptRows.{ChangesRows};
 ghost use Rattle.daide_sockets.specs.Pairing.{pending_connects};
 ghost use Rattle.daide_sockets.specs.ServerStates.{server_shown};
@@ -74,7 +74,7 @@ impl<'w, N: Network, E: Sink + Drop> Sockets<'w, N, E> {
     /// be closed, since it is closed or further bots may come.
     fn has_no_orders(&self) -> bool
         ensures open { result ≡ true → self.now.bots_in_all ≤ self.now.acceptor.came → self.now.acceptor.is_closed ≡ true }
-        ensures free { result ≡ true → places self.now.control.slots ≡ None ∷ None ∷ None ∷ None ∷ [] }
+        ensures free { result ≡ true → are_places_free self.now.control.slots ≡ true }
         ensures not_due { result ≡ true → is_listener_due self.now.poller.table self.now.control.listener ≡ false }
         ensures armed { result ≡ true →
             self.now.poller.table ≡ arming_control self.now.poller.table self.now.control }
@@ -86,9 +86,9 @@ impl<'w, N: Network, E: Sink + Drop> Sockets<'w, N, E> {
     /// Advances the control socket, and returns the operator's orders. Once a stop is requested, or all bots of the run
     /// came, the listener for bots is closed. So a bot that comes too late is refused.
     ///
-    /// `control`: a status has the run as it is at the beginning of the round. Of the orders, each is what a control connection
-    /// requested, now or before, and one that is due is accepted (`BeginsRound`). Then the network closes the listener for bots, or
-    /// makes no call.
+    /// `control`: a status has the run as it is at the beginning of the round, and a stop of a session the bots that are there. Of
+    /// the orders, each is what a control connection requested, now or before, and one that is due is accepted (`BeginsRound`).
+    /// Then the network closes the listener for bots, or makes no call.
     ///
     /// `armed`: the next poll watches the control socket.
     ///
@@ -104,7 +104,7 @@ impl<'w, N: Network, E: Sink + Drop> Sockets<'w, N, E> {
             (or_zero (seconds_between self.old.control.started_at self.old.poller.table.reading))
             (server_shown self.old.poller.table.reading self.old.server) self.old.counts run
             × (after : N) × BeginsRound N.transition N.Connection.to_give N.Connection.taken N.Connection.calls run
-            self.old.poller.table self.old.poller.network self.old.control result after self.new.control
+            self.old.present.bots.items self.old.poller.table self.old.poller.network self.old.control result after self.new.control
             × ClosesOrNot N.transition after self.new.poller.network }
         ensures armed { (before : Table) × ChangesRows (IsControlRow self.old.poller.table) self.old.poller.table before
             × (self.new.poller.table ≡ arming_control before self.new.control) }
@@ -127,7 +127,9 @@ impl<'w, N: Network, E: Sink + Drop> Sockets<'w, N, E> {
         }
         let was_stopped = self.control.stops_accepting();
         let run = self.run_status();
-        let orders = self.control.begin_round(&mut self.poller, &run);
+        let orders = self
+            .control
+            .begin_round(&mut self.poller, &run, &self.present);
         let is_stopped_now = orders.stops_accepting & !was_stopped;
         let closes = is_stopped_now | (self.has_all_bots() & !self.acceptor.is_closed());
         if closes {

@@ -1,7 +1,7 @@
 use Rattle.daide_session.proofs.Common.{ℕ, List, [], true, refl, sym, ap, ◌∙◌, drop, tokens_of, Side, Deed, at}
-use Rattle.daide_session.proofs.Common.{frame_accounted, name_after, Account, deed_of, is_sent, frame_tokens, pending}
+use Rattle.daide_session.proofs.Common.{frame_accounted, Account, deed_of, is_sent, frame_tokens, pending}
 use Rattle.daide_protocol.specs.declared.note.Note.TheVariants as Note
-use Rattle.daide_protocol.proofs.AccountLemmas.{named_account}
+use Rattle.daide_protocol.proofs.AccountLemmas.{message_recorded, recorded_account}
 use Rattle.daide_session.proofs.FrameEventsLemmas.{account_held, answered_whole, dropped_whole, phase_held}
 use Rattle.daide_session.proofs.SessionFronts.{fronts_same}
 use Rattle.daide_session.proofs.frame_events.answer.Goals as goal
@@ -29,7 +29,7 @@ returns-clause-reacts g c =
     let s = c.args.protocol.now in
     let body = drop 4 (pending t c.args.side) in
     answered_whole t c.reply-verdict.new.self s c.args.side c.args.head body c.reply-verdict.result
-    c.after-protocol-2.result c.record_name.new.self _
+    c.after-protocol-2.result c.record_message.new.self _
     c.requires.ready.live
     (ap (λ (to : Side). is_sent s.phase c.args.head.kind to) (sym c.other.ensures)
     ∙ (sym c.is_sent.ensures ∙ c.if-not-is_sent.false))
@@ -40,22 +40,20 @@ returns-clause-reacts g c =
     ∙ phase_held t c.reply-verdict.new.self c.args.side s.top_level c.args.head c.reply-verdict.result s.phase
     c.reply-verdict.ensures.keeps c.reply-verdict.ensures.answered c.requires.ready.tied c.requires.head)
     (ap (λ (d : Deed). Note.Frame c.args.head d) c.deed_of-deed.ensures)
-    (named_account s.top_level c.args.side c.args.head.kind (deed_of true c.reply-verdict.result) (tokens_of body) s.account
-    c.count_frame.new.self c.record_name.new.self
+    (recorded_account s.top_level c.args.side c.args.head.kind (deed_of true c.reply-verdict.result) (tokens_of body) s.account
+    c.count_frame.new.self c.record_message.new.self
     (c.count_frame.ensures _ c.found-2.ensures
     ∙ (ap (λ (d : Deed). record (frame_accounted s.top_level c.args.side c.args.head.kind d
     (frame_tokens c.reply-verdict.new.self.cap (at c.reply-verdict.new.self.sides c.args.side).holding.frame_bytes) s.account)
-    { name = s.account.name })
+    { name = s.account.name; power = s.account.power })
     c.deed_of-deed.ensures
-    ∙ ap (λ (a : Account). record a { name = s.account.name })
+    ∙ ap (λ (a : Account). record a { name = s.account.name; power = s.account.power })
     (account_held t c.reply-verdict.new.self c.args.side s.top_level c.args.head (deed_of true c.reply-verdict.result)
     s.account c.reply-verdict.ensures.keeps c.reply-verdict.ensures.answered c.requires.ready.tied c.requires.head)))
-    (c.record_name.ensures
-    ∙ (ap (λ (d : Deed). record c.count_frame.new.self {
-      name = name_after c.args.head.kind c.args.side d (tokens_of c.body.result.now) c.count_frame.new.self.name;
-    }) c.deed_of-deed.ensures
-    ∙ ap (λ (l : List ℕ). record c.count_frame.new.self {
-      name = name_after c.args.head.kind c.args.side (deed_of true c.reply-verdict.result) (tokens_of l)
-          c.count_frame.new.self.name;
-    }) (c.body.ensures.value
+    (c.record_message.ensures
+    ∙ (ap (λ (d : Deed). message_recorded c.args.side c.args.head.kind d (tokens_of c.body.result.now) c.count_frame.new.self)
+    c.deed_of-deed.ensures
+    ∙ ap (λ (l : List ℕ). message_recorded c.args.side c.args.head.kind (deed_of true c.reply-verdict.result) (tokens_of l)
+    c.count_frame.new.self)
+    (c.body.ensures.value
     ∙ ap (λ (l : List ℕ). drop 4 l) (c.reply-verdict.ensures.answered.frame_bytes ∙ c.requires.ready.tied)))))

@@ -15,9 +15,9 @@ returns-then-advance-clause-advances g c =
       true,
       c.advance.new.self,
       subst (λ (k : ControlConnection g.row.S.Denot). Advances g.S.Duplex.to_give g.S.Duplex.taken g.S.Duplex.calls
-          c.args.run.now c.args.table.now.reading k true c.advance.new.self)
+          c.args.view.run.now c.args.view.present.now.bots.items c.args.has_room c.args.table.now.reading k true c.advance.new.self)
           (noted _ _ _ _ c.note_report.ensures c.take_report-report.ensures.report)
-          (subst (λ (now : Option Instant). Advances g.S.Duplex.to_give g.S.Duplex.taken g.S.Duplex.calls c.args.run.now now
+          (subst (λ (now : Option Instant). Advances g.S.Duplex.to_give g.S.Duplex.taken g.S.Duplex.calls c.args.view.run.now c.args.view.present.now.bots.items c.args.has_room now
           c.note_report.new.self true c.advance.new.self) clock c.if-advance.ensures.advances),
       refl,
     )
@@ -30,9 +30,9 @@ returns-clause-advances g c =
       false,
       c.advance.new.self,
       subst (λ (k : ControlConnection g.row.S.Denot). Advances g.S.Duplex.to_give g.S.Duplex.taken g.S.Duplex.calls
-          c.args.run.now c.args.table.now.reading k false c.advance.new.self)
+          c.args.view.run.now c.args.view.present.now.bots.items c.args.has_room c.args.table.now.reading k false c.advance.new.self)
           (noted _ _ _ _ c.note_report.ensures c.take_report-report.ensures.report)
-          (subst (λ (now : Option Instant). Advances g.S.Duplex.to_give g.S.Duplex.taken g.S.Duplex.calls c.args.run.now now
+          (subst (λ (now : Option Instant). Advances g.S.Duplex.to_give g.S.Duplex.taken g.S.Duplex.calls c.args.view.run.now c.args.view.present.now.bots.items c.args.has_room now
           c.note_report.new.self false c.advance.new.self) clock c.if-advance.ensures.advances),
       refl,
     )

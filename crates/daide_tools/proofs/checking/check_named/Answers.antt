@@ -1,4 +1,4 @@
-use Rattle.std.proofs.Common.{◌≢◌, inr, refl, rules, Err}
+use Rattle.std.proofs.Common.{◌≢◌, inl, inr, refl, rules, Err}
 use Rattle.daide_log_lines.specs.declared.fault.LogFault.TheVariants.{Read}
 use Rattle.daide_tools.specs.Opened.{standard_input}
 use Rattle.daide_tools.proofs.CheckingLemmas.{said_of}
@@ -11,6 +11,9 @@ returns-in-Err-clause-checked g c =
     (λ status one said. (
       Err Read,
       inr (other, refl, Err c.in-Err.field-0, c.in-Err.ensures, (refl, refl)),
-      ((λ same. absurd (other same)), rw c.without_line-refused.ensures at said),
+      (
+        ((λ same. absurd (other same)), λ named. inl (c.in-Err.field-0, c.in-Err.ensures)),
+        rw c.without_line-refused.ensures at said,
+      ),
       one,
     ))

@@ -1,9 +1,8 @@
 use Rattle.std.proofs.Common.{◌≡◌, ℕ, false, List, [], ◌∷◌, refl, sym, ap, ◌∙◌, subst}
 use Rattle.std.specs.Prelude.{slice_get}
 use Rattle.daide_io.specs.declared.system.Connect.TheVariants.{Ready, Failed, Pending}
-use Rattle.daide_io.specs.declared.system.Notice.TheVariants.{CannotReach}
 use Rattle.daide_io.specs.Ports.{PortCall}
-use Rattle.daide_io.specs.System.{SystemCall, Connects, Notifies, TransitsBy}
+use Rattle.daide_io.specs.System.{SystemCall, Connects, TransitsBy}
 use Rattle.daide_driver.specs.Slab.{SlabView, is_at, is_kept}
 use Rattle.daide_event_loop.specs.Serving.{ServiceView, VisitsPlace, IsRefusedAt}
 use Rattle.daide_event_loop.proofs.VisitLemmas.{passed_over, kept_in, visited_kept, opened_there}
@@ -58,10 +57,10 @@ returns-in-Failed-clause-visits g c =
       ready = c.self.inside.ready;
     } in
     subst (λ (old : ServiceView g.row.P.Denot). Visited g.P.Ports.transition g.S.System.transition c.args.system.now old c.args.place 1
-    (record run { slab = c.give_up.new.self }) c.log.new.self) c.self.view_is (
-      Connects c.args.place Failed ∷ Notifies CannotReach ∷ [],
-      (c.connected.new.self, c.in-Failed.ensures, (c.log.new.self, c.log.ensures, refl)),
-      visited_kept g.P.Ports.transition run c.args.place 1 Failed (Notifies CannotReach ∷ []) (record run { slab = c.give_up.new.self })
+    (record run { slab = c.give_up.new.self }) c.connected.new.self) c.self.view_is (
+      Connects c.args.place Failed ∷ [],
+      (c.connected.new.self, c.in-Failed.ensures, refl),
+      visited_kept g.P.Ports.transition run c.args.place 1 Failed [] (record run { slab = c.give_up.new.self })
           kept (refl, refl, ap (λ (slab : SlabView g.row.P.Denot). record run { slab = slab }) c.give_up.ensures),
     )
 

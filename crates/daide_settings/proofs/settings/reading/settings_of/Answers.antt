@@ -117,6 +117,25 @@ returns-in_err-max_per_address-clause-refused g c =
       ← c.in_err-max_per_address.ensures.judged,
     ) refl)
 
+pub returns-in_err-max_refused-clause-refused : goal.returns-in_err-max_refused-clause-refused
+returns-in_err-max_refused-clause-refused g c =
+    fault_of_key g.A.SettingsMemory.Refuses (table_view c.args.table.now) c.from_residual-in_err-max_refused.result
+    c.in_err-max_refused.field-0.0 c.from_residual-in_err-max_refused.ensures.1
+    (known_judged _ (sym c.if-not-has_only_known.ensures) ∙ rw (
+      c.in_ok-listen.ensures,
+      c.in_ok-server.ensures,
+      ← c.in_ok-config.ensures.judged,
+      ← c.in_ok-limits.ensures.judged,
+      ← c.found.ensures,
+      c.in_ok-words.ensures,
+      ← c.in_ok-stall_seconds.ensures,
+      ← c.in_ok-endless.ensures,
+      ← c.found-2.ensures,
+      c.in_ok-allow.ensures,
+      ← c.in_ok-max_per_address.ensures.judged,
+      ← c.in_err-max_refused.ensures,
+    ) refl)
+
 pub returns-in_err-control-clause-refused : goal.returns-in_err-control-clause-refused
 returns-in_err-control-clause-refused g c =
     fault_of_key g.A.SettingsMemory.Refuses (table_view c.args.table.now) c.from_residual-in_err-control.result c.in_err-control.field-0.0
@@ -133,6 +152,7 @@ returns-in_err-control-clause-refused g c =
       ← c.found-2.ensures,
       c.in_ok-allow.ensures,
       ← c.in_ok-max_per_address.ensures.judged,
+      ← c.in_ok-max_refused.ensures,
       c.in_err-control.ensures,
     ) refl)
 
@@ -151,6 +171,7 @@ returns-in_default-clause-refused g c =
       ← c.found-2.ensures,
       c.in_ok-allow.ensures,
       ← c.in_ok-max_per_address.ensures.judged,
+      ← c.in_ok-max_refused.ensures,
       c.in_ok-control.ensures,
     )
     (refl, c.in_default.ensures.refused)
@@ -169,6 +190,7 @@ returns-clause-judged g c =
       ← c.found-2.ensures,
       c.in_ok-allow.ensures,
       ← c.in_ok-max_per_address.ensures.judged,
+      ← c.in_ok-max_refused.ensures,
       c.in_ok-control.ensures,
     )
     (cc (c.in-Ok.ensures.copied.0, c.in-Ok.ensures.copied.1, c.in-Ok.ensures.copied.2))

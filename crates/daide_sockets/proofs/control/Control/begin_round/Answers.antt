@@ -1,11 +1,10 @@
 use Rattle.std.proofs.Common.{rules}
-use Rattle.daide_sockets.specs.ControlSlots.{places}
 use Rattle.daide_sockets.proofs.ControlLemmas.{asked_before, control_then}
 use Rattle.daide_sockets.proofs.control.Control.begin_round.Goals as goal
 
 pub returns-clause-control : goal.returns-clause-control
 returns-clause-control g c = record {
-  mid = places c.advance.new.self;
+  mid = c.advance.new.self;
   advances = c.advance.ensures.advances;
   accepts = asked_before g.N.Network.transition c.args.poller.now.table c.advance.new.table c.args.self.now.listener _ _ _ _
       c.advance.ensures.table c.advance.ensures.listener c.accept.ensures.accepts;

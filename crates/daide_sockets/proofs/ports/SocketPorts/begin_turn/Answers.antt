@@ -5,13 +5,12 @@ use Rattle.daide_frame.specs.declared.side.Side.TheVariants.{Bot, Server}
 use Rattle.daide_frame.specs.PerSide.{PerSide, at}
 use Rattle.daide_frame.proofs.PerSideLemmas.{on_both}
 use Rattle.daide_buffered_io.specs.Buffers.{Buffer}
-use Rattle.daide_buffered_io.specs.Calls.{OnlyPuts}
 use Rattle.daide_buffered_io.proofs.StreamLemmas.{begun_moves}
 use Rattle.daide_sockets.specs.declared.ports.SocketPorts.{SocketPorts}
 use Rattle.daide_sockets.specs.Clock.{due_after, is_past}
 use Rattle.daide_sockets.specs.Table.{key_of, merged, report_at}
 use Rattle.daide_sockets.specs.Timers.{BeginsInTime}
-use Rattle.daide_sockets.specs.Wakeups.{BeginsToSettle}
+use Rattle.daide_sockets.specs.Wakeups.{BeginsToSettle, BeginsWriting}
 use Rattle.daide_sockets.proofs.SocketLemmas.{reported_begins}
 use Rattle.daide_sockets.proofs.ports.SocketPorts.begin_turn.Goals as goal
 
@@ -33,10 +32,12 @@ returns-clause-settles g c =
     rw c.read_deadline.ensures (on_both
     (λ (side : Side). BeginsToSettle g.S.Duplex.calls (at c.args.self.now.sides side) (at c.begin_both.new.self.sides side)) (
       rw (reports.bot, c.note_reading.ensures) at both.keys.0,
+      _,
       report_at c.args.table.now (key_of c.args.place Bot),
       rw (reports.bot, c.note_reading.ensures) at both.bot_writes,
     ) (
       rw (reports.server, c.note_reading.ensures) at both.keys.1,
+      _,
       report_at c.args.table.now (key_of c.args.place Server),
       rw (reports.server, c.note_reading.ensures) at both.server_writes,
     ))
@@ -71,14 +72,17 @@ returns-clause-timers g c =
 pub returns-clause-takes : goal.returns-clause-takes
 returns-clause-takes g c =
     let before = c.args.self.now.sides in
-    let after = c.begin_both.new.self.sides in
+    let after = c.begin_both.new.self in
     let reports = c.take_reports.ensures in
     let both = c.begin_both.ensures in
+    let reading = ap (λ (p : SocketPorts g.row.S.Denot). p.idle.reading) both.rest in
+    let writes : Option Instant → Side → Type 0 = λ reading side. BeginsWriting g.S.Duplex.calls reading
+    (merged (at before side).readiness (report_at c.args.table.now (key_of c.args.place side))) (at before side) (at after.sides side) in
     rw c.read_deadline.ensures (record {
-      writes = on_both (λ (side : Side). OnlyPuts g.S.Duplex.calls
-          (merged (at before side).readiness (report_at c.args.table.now (key_of c.args.place side)))
-          (at before side).stream.stream (at after side).readiness (at after side).stream.stream)
-          (rw (reports.bot, c.note_reading.ensures) at both.bot_writes)
-          (rw (reports.server, c.note_reading.ensures) at both.server_writes);
+      writes = on_both (writes after.idle.reading)
+          (subst (λ (r : Option Instant). writes r Bot) (sym reading)
+          (rw (reports.bot, c.note_reading.ensures) at both.bot_writes))
+          (subst (λ (r : Option Instant). writes r Server) (sym reading)
+          (rw (reports.server, c.note_reading.ensures) at both.server_writes));
       table = reports.table;
     })

@@ -12,7 +12,7 @@ use Rattle.daide_sockets.proofs.system.Sockets.take_orders.Goals.{then-closes, e
 pub returns-then-has_no_orders-clause-control : goal.returns-then-has_no_orders-clause-control
 returns-then-has_no_orders-clause-control g c =
     let some = some_status _ _ _ _ _ _ _ _ _ in
-    (some.0, some.1, c.args.self.now.poller.network, c.orders_at_rest.ensures.control some.0, inl refl)
+    (some.0, some.1, c.args.self.now.poller.network, c.orders_at_rest.ensures.control some.0 c.args.self.now.present.bots.items, inl refl)
 
 pub returns-then-has_no_orders-clause-armed : goal.returns-then-has_no_orders-clause-armed
 returns-then-has_no_orders-clause-armed g c =

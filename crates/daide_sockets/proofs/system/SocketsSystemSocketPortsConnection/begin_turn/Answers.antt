@@ -3,13 +3,13 @@ use Rattle.daide_sockets.specs.Table.{Table}
 use Rattle.daide_sockets.proofs.KeptRowLemmas.{reports_hold, turn_beside}
 use Rattle.daide_sockets.proofs.system.SocketsSystemSocketPortsConnection.begin_turn.Goals as goal
 
-pub returns-then-stops_now-clause-ports : goal.returns-then-stops_now-clause-ports
-returns-then-stops_now-clause-ports g c =
+pub returns-in-Some-clause-ports : goal.returns-in-Some-clause-ports
+returns-in-Some-clause-ports g c =
     rw c.stop.ensures (c.begin_turn.ensures.begins, c.begin_turn.ensures.settles, c.begin_turn.ensures.timers)
 
 -- an operator stops the session, or not
-pub returns-then-stops_now-clause-system : goal.returns-then-stops_now-clause-system
-returns-then-stops_now-clause-system g c = rw c.stop.ensures (λ held. (
+pub returns-in-Some-clause-system : goal.returns-in-Some-clause-system
+returns-in-Some-clause-system g c = rw c.stop.ensures (λ held. (
   reports_hold _ _ c.args.place _ c.begin_turn.ensures.takes.table held,
   refl,
   (
@@ -25,8 +25,8 @@ returns-then-stops_now-clause-system g c = rw c.stop.ensures (λ held. (
   refl,
 ))
 
-pub returns-else-stops_now-clause-system : goal.returns-else-stops_now-clause-system
-returns-else-stops_now-clause-system g c = λ held. (
+pub returns-in_default-clause-system : goal.returns-in_default-clause-system
+returns-in_default-clause-system g c = λ held. (
   reports_hold _ _ c.args.place _ c.begin_turn.ensures.takes.table held,
   refl,
   (

@@ -1,6 +1,9 @@
-use Rattle.std.proofs.Common.{length, refl, sym, ap, ◌∙◌, subst}
+use Rattle.std.proofs.Common.{◌≡◌, ℕ, Bool, true, false, List, Option, Some, length, refl, sym, ap, ◌∙◌, subst}
+use Rattle.std.specs.Prelude.{slice_get}
 use Rattle.daide_frame.specs.declared.side.Side.TheVariants.{Bot, Server}
-use Rattle.daide_sockets.specs.Pairing.{arrival_at}
+use Rattle.daide_sockets.specs.Pairing.{Arriving, arrival_at, arrival_in}
+use Rattle.daide_sockets.specs.Stops.{is_connect_stopped, is_stop_requested}
+use Rattle.daide_sockets.specs.declared.control.Control.{Control}
 use Rattle.daide_sockets.specs.Table.{Table, key_of, report_at}
 use Rattle.daide_sockets.proofs.AcceptLemmas.{unreached}
 use Rattle.daide_sockets.proofs.ConnectLemmas.{connected_joins, connected_reports, connected_to, ready_is, key_fits, rests_for, rests_unchanged}
@@ -13,6 +16,13 @@ use Rattle.daide_sockets.specs.Scheduling.{pair_of}
 use Rattle.daide_sockets.specs.declared.ports.SocketPorts.{SocketPorts}
 use Rattle.daide_sockets.specs.Wakeups.{is_of_connect}
 use Rattle.daide_sockets.proofs.system.SocketsSystemSocketPortsConnection.connected.Goals as goal
+
+-- whether the bot at a place is stopped is that of its number
+stopped_there : {S : Type 0} (control : Control S) (arrivals : List (Option (Arriving S))) (place : ℕ) (arrival : Arriving S)
+    (stops : Bool) → slice_get arrivals place ≡ Some (Some arrival) → is_stop_requested control arrival.identity.number ≡ stops →
+    is_connect_stopped control (arrival_at arrivals place) ≡ stops
+stopped_there control arrivals place arrival stops there e =
+    ap (λ (item : Option (Option (Arriving _))). is_connect_stopped control (arrival_in item)) there ∙ e
 
 pub returns-in_default-clause-transition : goal.returns-in_default-clause-transition
 returns-in_default-clause-transition g c =
@@ -31,8 +41,8 @@ returns-in_default-clause-transition g c =
     ))
 
 -- sessions end now: the connect is given up
-pub returns-then-stops_now-clause-transition : goal.returns-then-stops_now-clause-transition
-returns-then-stops_now-clause-transition g c =
+pub returns-then-is_stop_requested-clause-transition : goal.returns-then-is_stop_requested-clause-transition
+returns-then-is_stop_requested-clause-transition g c =
     let old = c.args.self.now.poller.table in
     let lt = c.in-Some.ensures.rows.0 in
     let closes = rw (c.give_up.ensures.1, c.take_arrival.ensures.same) at c.let_go.ensures.closes in
@@ -43,7 +53,7 @@ returns-then-stops_now-clause-transition g c =
       (
         record {
           places = failed_places old old _ c.args.place _ _ _ lt refl (changes_none _ _ _ refl) rows held;
-          bounded = c.is_bounded-then-stops_now.ensures;
+          bounded = c.is_bounded-then-is_stop_requested.ensures;
         },
         (
           rw c.take_arrival.ensures.same at c.let_go.ensures.calls,
@@ -57,11 +67,12 @@ returns-then-stops_now-clause-transition g c =
       refl,
     ))
 
-pub returns-then-stops_now-clause-leaves : goal.returns-then-stops_now-clause-leaves
-returns-then-stops_now-clause-leaves g c = λ failed.
+pub returns-then-is_stop_requested-clause-leaves : goal.returns-then-is_stop_requested-clause-leaves
+returns-then-is_stop_requested-clause-leaves g c = λ failed.
     let present = rw (c.give_up.ensures.0, c.take_arrival.ensures.same) at c.let_go.ensures.present in
     let logged = rw (c.give_up.ensures.0, c.take_arrival.ensures.same) at c.let_go.ensures.logged in
-    let on = rw c.take_arrival.ensures.same at (sym c.stops_now.ensures ∙ c.if-stops_now.true) in
+    let on = stopped_there c.args.self.now.control c.args.self.now.arrivals.items c.args.place c.in-Some.arrival true c.in-Some.ensures.some.there
+    (rw (c.number.ensures, c.take_arrival.ensures.same) at (sym c.is_stop_requested.ensures ∙ c.if-is_stop_requested.true)) in
     rw (c.let_go.ensures.same, on) (c.in-Some.arrival, c.in-Some.ensures.some, present, c.args.self.now.errors, logged)
 
 -- it is still pending: its place rests
@@ -198,7 +209,8 @@ returns-in-Err-clause-leaves g c = λ failed.
     let table = rw c.take_arrival.ensures.same at c.advances.ensures.table in
     let reading = ap (λ (t : Table). t.reading) table.same in
     let logged = rw (c.note_away.ensures.same, identity, reading, c.take_arrival.ensures.same) at c.let_go-in-Err.ensures.logged in
-    let off = rw c.take_arrival.ensures.same at (sym c.stops_now.ensures ∙ c.if-stops_now.false) in
+    let off = stopped_there c.args.self.now.control c.args.self.now.arrivals.items c.args.place c.in-Some.arrival false c.in-Some.ensures.some.there
+    (rw (c.number.ensures, c.take_arrival.ensures.same) at (sym c.is_stop_requested.ensures ∙ c.if-is_stop_requested.false)) in
     rw (c.let_go-in-Err.ensures.same, c.note_away.ensures.same, off) (
       c.in-Some.arrival,
       c.in-Some.ensures.some,

@@ -1,4 +1,4 @@
-use Rattle.std.proofs.Common.{◌++◌, nat_le, refl, sym, ap, ◌∙◌, subst}
+use Rattle.std.proofs.Common.{◌≡◌, ◌++◌, Bool, true, nat_le, refl, sym, ap, ◌∙◌, subst}
 use Rattle.std.specs.Prelude.{◌||◌, ◌&&◌, not}
 use Rattle.daide_io.specs.ReadyQueue.{ReadyView, woken_all}
 use Rattle.daide_io.proofs.ReadyLemmas.{woken_both}
@@ -7,6 +7,7 @@ use Rattle.daide_sockets.specs.Table.{arming_all}
 use Rattle.daide_sockets.specs.Rows.{closing_keys}
 use Rattle.daide_sockets.specs.Table.{IsPollTime}
 use Rattle.daide_sockets.specs.Accepting.{shut_if}
+use Rattle.daide_sockets.specs.Stops.{stop_begins}
 use Rattle.daide_sockets.specs.declared.admission.Acceptor.{Acceptor}
 use Rattle.daide_sockets.specs.declared.control.Control.{Control}
 use Rattle.daide_sockets.proofs.AcceptLemmas.{kept_came}
@@ -64,9 +65,10 @@ returns-clause-transition g c =
             c.tidy.new.self.poller.table armed.0 c.take_orders-orders.new.self.poller.table (closing_keys old.closings.streams)
             (closing_keys c.tidy.new.self.closings.streams) c.take_orders-orders.new.self.control asleep places polled.8 rows
             armed.1 armed.2 (old.idle_time, old.stall_time) old.acceptor c.tidy.new.self.acceptor old.arrivals.items old.closings
-            old.control _ c.take_orders-orders.result asked.2 asked.0 held acceptor
-            (_, _, _, _, _, rw (c.tidy.ensures.same, c.poll_places.ensures.same, c.note_capacity.ensures.same) at asked.1)
-            (rw (c.tidy.ensures.network, control) at asked.3) asked.4,
+            old.control _ c.take_orders-orders.result asked.2 asked.0 _ held acceptor
+            (_, _, _, _, rw (c.tidy.ensures.same, c.poll_places.ensures.same, c.note_capacity.ensures.same) at asked.1)
+            (rw (c.tidy.ensures.same, c.poll_places.ensures.same, c.note_capacity.ensures.same, c.tidy.ensures.network) at asked.3)
+            asked.4,
       ),
     )
 
@@ -75,9 +77,11 @@ returns-clause-stops g c =
     let polled = c.poll_places.ensures.polls in
     let control = rw (c.poll_places.ensures.same, c.note_capacity.ensures.same) at c.tidy.ensures.control in
     let more = c.wake_stopped.ensures in
-    λ stops was. (
+    λ stops. (
       polled.0 ++ more.0,
       more.1 ∙ ap (λ (q : ReadyView). woken_all more.0 q) polled.1 ∙ sym (woken_both polled.0 more.0 _),
-      λ place lt. among_later place polled.0 more.0 (more.2 stops
-          (c.stops_now-was_stopped.ensures ∙ ap (λ (k : Control g.row.N-Connection.Denot). k.stops_now) control ∙ was) place lt),
+      λ place lt. among_later place polled.0 more.0 (more.2
+          (subst (λ (was : Bool). stop_begins c.take_orders-orders.new.self.control was ≡ true)
+          (sym (c.stops_now-was_stopped.ensures ∙ ap (λ (k : Control g.row.N-Connection.Denot). k.stops_now) control)) stops)
+          place lt),
     )

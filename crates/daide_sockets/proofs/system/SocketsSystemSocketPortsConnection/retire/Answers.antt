@@ -39,6 +39,7 @@ returns-clause-logged g c =
       lasted,
       c.why_of-why.ensures,
       c.new-timed.ensures,
+      c.stop_cause-stop.ensures,
       c.at.ensures,
       c.at-2.ensures,
       c.sockets-sockets.ensures,
